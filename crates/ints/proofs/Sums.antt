@@ -1,0 +1,111 @@
+-- Sums of a function over the numbers below n, and tables of its values there.
+-- Assumes nothing.
+use mathlib.Core.Path.{_≡_, refl, sym, ap, _∙_, subst}
+use mathlib.Core.Logic.{_⊎_, ⊎-elim}
+use mathlib.Core.List.{List, [], _∷_, _++_}
+use Prim.Native.Nat.{ℕ, zero, suc, _+_, _-_, _≤_, _<_}
+use native.Mathlib.Omega.{arith}
+use native.Mathlib.Numerals.{add-one}
+use borrow.Author.Tests.{eq-eqb, ne-eqb}
+use lib.ListN.{length, getD, length-append, List·getD-append}
+use lib.Seq.{getD-at, ext-getD}
+use Rattle.ints.specs.Sums.{sumTo, table, one}
+use Rattle.ints.proofs.Tests.{last}
+
+-- the turn of a loop that sums
+pub sum-more : (f : ℕ → ℕ) (n : ℕ) → sumTo f (n + 1) ≡ sumTo f n + f n
+unfolding sumTo
+sum-more f n = rw add-one
+
+-- a part is at most the sum
+pub part-le : (f : ℕ → ℕ) (n k : ℕ) → k < n → f k ≤ sumTo f n
+unfolding sumTo
+part-le f zero k h = absurd (omega arith)
+part-le f (suc n) k h =
+    ⊎-elim (λ (e : k ≡ n). omega (arith, ap f e)) (λ (l : k < n). omega (arith, part-le f n k l)) (last h)
+
+-- functions that agree have one sum
+pub sum-same : (f g : ℕ → ℕ) (n : ℕ) → ((k : ℕ) → k < n → f k ≡ g k) → sumTo f n ≡ sumTo g n
+unfolding sumTo
+sum-same f g zero h = refl
+sum-same f g (suc n) h = omega (arith, sum-same f g n (λ k l. h k (omega arith)), h n (omega arith))
+
+-- a change at one place changes the sum by as much
+pub sum-change : (f g : ℕ → ℕ) (p n : ℕ) → p < n → ((k : ℕ) → k < n → (k ≡ p → ⊥) → f k ≡ g k) → sumTo f n + g p ≡ sumTo g n + f p
+unfolding sumTo
+sum-change f g p zero l h = absurd (omega arith)
+sum-change f g p (suc n) l h =
+    ⊎-elim
+    (λ (e : p ≡ n). omega (arith, ap f e, ap g e, sum-same f g n (λ k m. h k (omega arith) (λ q. omega arith))))
+    (λ (m : p < n). omega (arith, sum-change f g p n m (λ k m' q. h k (omega arith) q), h n (omega arith) (λ q. omega arith)))
+    (last l)
+
+-- a table's length and its entries
+pub length-table : {A : Type 0} (f : ℕ → A) (n : ℕ) → length (table f n) ≡ n
+unfolding table
+length-table f zero = refl
+length-table f (suc n) = length-append (table f n) (f n ∷ []) ∙ omega (arith, length-table f n)
+
+pub getD-table : {A : Type 0} (f : ℕ → A) (n k : ℕ) (d : A) → k < n → getD (table f n) k d ≡ f k
+unfolding table
+getD-table f zero k d h = absurd (omega arith)
+getD-table f (suc n) k d h =
+    ⊎-elim
+    (λ (e : k ≡ n). getD-at (table f n) (f n) [] d k (length-table f n ∙ sym e) ∙ ap f (sym e))
+    (λ (l : k < n). List·getD-append (table f n) (f n ∷ []) d k (omega (arith, length-table f n)) ∙ getD-table f n k d l)
+    (last h)
+
+-- a list whose entries are those of a table is the table
+pub table-is : {A : Type 0} (f : ℕ → A) (n : ℕ) (l : List A) (d : A) → length l ≡ n → ((k : ℕ) → k < n → getD l k d ≡ f k) → l ≡ table f n
+table-is f n l d e h =
+    ext-getD d l (table f n) (e ∙ sym (length-table f n))
+    (λ k m. h k (omega arith) ∙ sym (getD-table f n k d (omega arith)))
+
+-- the first part, in front
+pub sum-front : (f : ℕ → ℕ) (n : ℕ) → sumTo f (suc n) ≡ f 0 + sumTo (λ k. f (suc k)) n
+unfolding sumTo
+sum-front f zero = omega arith
+sum-front f (suc n) = omega (arith, sum-front f n)
+
+-- a sum the other way round
+pub sum-turned : (f g : ℕ → ℕ) (n : ℕ) → ((k : ℕ) → k < n → g k ≡ f (n - suc k)) → sumTo g n ≡ sumTo f n
+unfolding sumTo
+sum-turned f g zero h = refl
+sum-turned f g (suc n) h =
+    sum-front g n
+    ∙ omega (arith, h 0 (omega arith), sum-turned f (λ k. g (suc k)) n (λ k l. h (suc k) (omega arith) ∙ ap f (omega arith)), ap f (first n))
+  where
+    first : (n : ℕ) → suc n - suc 0 ≡ n
+    first n = omega arith
+
+-- a sum of nothing
+pub sum-zero : (f : ℕ → ℕ) (n : ℕ) → ((k : ℕ) → k < n → f k ≡ 0) → sumTo f n ≡ 0
+unfolding sumTo
+sum-zero f zero h = refl
+sum-zero f (suc n) h = omega (arith, sum-zero f n (λ k l. h k (omega arith)), h n (omega arith))
+
+-- a sum of sums
+pub sum-plus : (f g : ℕ → ℕ) (n : ℕ) → sumTo (λ k. f k + g k) n ≡ sumTo f n + sumTo g n
+unfolding sumTo
+sum-plus f g zero = refl
+sum-plus f g (suc n) = omega (arith, sum-plus f g n)
+
+-- ---- the one place
+
+pub one-same : (p i : ℕ) → p ≡ i → one p i ≡ 1
+unfolding one
+one-same p i e = rw (eq-eqb p i e)
+
+pub one-other : (p i : ℕ) → (p ≡ i → ⊥) → one p i ≡ 0
+unfolding one
+one-other p i h = rw (ne-eqb p i h)
+
+-- it is passed over once
+pub sum-one : (p n : ℕ) → p < n → sumTo (one p) n ≡ 1
+unfolding sumTo
+sum-one p zero h = absurd (omega arith)
+sum-one p (suc n) h =
+    ⊎-elim
+    (λ (e : p ≡ n). omega (arith, sum-zero (one p) n (λ k l. one-other p k (λ q. omega arith)), one-same p n e))
+    (λ (l : p < n). omega (arith, sum-one p n l, one-other p n (λ e. omega arith)))
+    (last h)

@@ -1,0 +1,24 @@
+-- Sums, tests and tables over the numbers below n.
+use mathlib.Core.Bool.{Bool, true, cond, _&&_}
+use mathlib.Core.List.{List, [], _∷_, _++_}
+use Prim.Native.Nat.{ℕ, zero, suc, _+_}
+use lib.Dec.{eqb}
+
+-- f 0 + f 1 + .. + f (n - 1)
+unfoldable pub sumTo : (ℕ → ℕ) → ℕ → ℕ
+sumTo f zero = 0
+sumTo f (suc n) = sumTo f n + f n
+
+-- f holds of every number below n
+unfoldable pub all : (ℕ → Bool) → ℕ → Bool
+all f zero = true
+all f (suc n) = all f n && f n
+
+-- f 0, f 1, .., f (n - 1)
+unfoldable pub table : {A : Type 0} → (ℕ → A) → ℕ → List A
+table f zero = []
+table f (suc n) = table f n ++ (f n ∷ [])
+
+-- 1 where i is p, else 0
+unfoldable pub one : ℕ → ℕ → ℕ
+one p i = cond (eqb p i) 1 0

@@ -1,0 +1,191 @@
+// From position.rs: the 26 entries of a board, their refusals, the side switch and a single step.
+// A board is seen from x, the side to move: positive entries are x's checkers, negative ones o's.
+pub mod phase;
+
+ghost use mathlib.Core.Path.{_≡_};
+ghost use Prim.Native.Nat.{_≤_};
+ghost use Rattle.ints.specs.Signed.{Small};
+ghost use Rattle.ints.specs.Sums.{sumTo};
+ghost use Rattle.position.specs.Board.{checkers, Accepted, xs, os, switched};
+ghost use Rattle.position.specs.Step.{clearFrom, canStep, stepped};
+ghost use Rattle.position.specs.Answers.{Judged, boardAnswer, switchAnswer, stepAnswer, noBoard};
+
+pub const NUM_OF_CHECKERS: u32 = 15;
+
+pub const X_BAR: usize = 25;
+
+pub const O_BAR: usize = 0;
+
+// A board, or the number of the refusal and zeros.
+pub struct BoardAnswer {
+    pub refused: u8,
+    pub board: [i8; 26],
+}
+
+// How many checkers each side has.
+pub struct Checkers {
+    pub x: u32,
+    pub o: u32,
+}
+
+// The number of the first refusal of any 26 entries, 1 to 4, or 0 where they are accepted. Sums are whole numbers: none can wrap.
+pub fn refusal(b: [i8; 26]) -> u8
+    ensures { λ r. ⌜ Judged checkers b r ⌝ }
+{
+    let all = checkers_below(&b, 26);
+    if all.x > NUM_OF_CHECKERS {
+        return 1;
+    }
+    if all.o > NUM_OF_CHECKERS {
+        return 2;
+    }
+    if b[X_BAR] < 0 {
+        return 3;
+    }
+    if b[O_BAR] > 0 {
+        return 4;
+    }
+    0
+}
+
+// The board seen from the other side, or the refusal of the entries.
+pub fn switch(b: [i8; 26]) -> BoardAnswer
+    ensures { λ r. ⌜ r ≡ switchAnswer checkers b ⌝ }
+{
+    let n = refusal(b);
+    if n != 0 {
+        return refused(n);
+    }
+    answered(sides_switched(b))
+}
+
+// The board, unswitched, after one checker moves from a point by a die, or the refusal: of the entries, 7 of the die, 8 of the
+// point, 9 of the step. Finished and empty boards are taken.
+pub fn try_move_single_checker(b: [i8; 26], from: usize, die: usize) -> BoardAnswer
+    ensures { λ r. ⌜ r ≡ stepAnswer checkers b from die ⌝ }
+{
+    let n = refusal(b);
+    if n != 0 {
+        return refused(n);
+    }
+    if die < 1 {
+        return refused(7);
+    }
+    if die > 6 {
+        return refused(7);
+    }
+    if from > X_BAR {
+        return refused(8);
+    }
+    if can_move(&b, from, die) {
+        return answered(move_single_checker(b, from, die));
+    }
+    refused(9)
+}
+
+// A refusal's answer: its number and nothing else.
+fn refused(n: u8) -> BoardAnswer
+    ensures { λ r. ⌜ (r .refused ≡ n) × (r .board ≡ noBoard) ⌝ }
+{
+    let none = [0i8; 26];
+    BoardAnswer {
+        refused: n,
+        board: none,
+    }
+}
+
+fn answered(b: [i8; 26]) -> BoardAnswer
+    ensures { λ r. ⌜ (r .refused ≡ 0) × (r .board ≡ b) ⌝ }
+{
+    BoardAnswer {
+        refused: 0,
+        board: b,
+    }
+}
+
+// Both sides' checkers on the entries below n.
+pub fn checkers_below(b: &[i8; 26], n: usize) -> Checkers
+    requires { ⌜ n ≤ 26 ⌝ }
+    ensures { λ r. ⌜ (r .x ≡ sumTo (xs (now (b .entry))) n) × (r .o ≡ sumTo (os (now (b .entry))) n) ⌝ }
+{
+    let mut x: u32 = 0;
+    let mut o: u32 = 0;
+    let mut i = 0;
+    while i < n {
+        x += ints::pos_part(b[i]);
+        o += ints::neg_part(b[i]);
+        i += 1;
+    }
+    Checkers { x, o }
+}
+
+// Entry 25 - i of the new board is minus entry i of the old.
+pub fn sides_switched(b: [i8; 26]) -> [i8; 26]
+    requires { ⌜ Small 126 b ⌝ }
+    ensures { λ r. ⌜ r ≡ switched b ⌝ }
+{
+    let mut r = [0i8; 26];
+    let mut i = 0;
+    while i < 26 {
+        r[25 - i] = -b[i];
+        i += 1;
+    }
+    r
+}
+
+// Whether x has no checker on the points from lo to 24.
+fn clear_from(b: &[i8; 26], lo: usize) -> bool
+    requires { ⌜ lo ≤ 25 ⌝ }
+    ensures { λ r. ⌜ r ≡ clearFrom (now (b .entry)) lo ⌝ }
+{
+    let mut i = lo;
+    while i < X_BAR {
+        if b[i] > 0 {
+            return false;
+        }
+        i += 1;
+    }
+    true
+}
+
+// Whether the step is legal, those from the bar too.
+pub fn can_move(b: &[i8; 26], from: usize, die: usize) -> bool
+    requires { ⌜ (from ≤ 25) × (die ≤ 6) ⌝ }
+    ensures { λ r. ⌜ r ≡ canStep (now (b .entry)) from die ⌝ }
+{
+    if b[from] < 1 {
+        return false;
+    }
+    if from != X_BAR {
+        if b[X_BAR] > 0 {
+            return false;
+        }
+    }
+    if from > die {
+        return b[from - die] > -2;
+    }
+    if from == die {
+        return clear_from(b, 7);
+    }
+    clear_from(b, from + 1)
+}
+
+// The board after a step, legal or not. Entries stay small enough to add to.
+pub fn move_single_checker(b: [i8; 26], from: usize, die: usize) -> [i8; 26]
+    requires { ⌜ from ≤ 25 ⌝ }
+    requires { ⌜ Small 124 b ⌝ }
+    ensures { λ r. ⌜ r ≡ stepped b from die ⌝ }
+{
+    let mut r = b;
+    r[from] -= 1;
+    if from > die {
+        let to = from - die;
+        if r[to] == -1 {
+            r[to] = 1;
+            r[O_BAR] -= 1;
+        } else {
+            r[to] += 1;
+        }
+    }
+    r
+}
