@@ -1,15 +1,16 @@
--- Sums of a function over the numbers below n, and tables of its values there.
+-- Sums of a function over the numbers below n, and lists of its values.
 -- Assumes nothing.
 use mathlib.Core.Path.{_≡_, refl, sym, ap, _∙_, subst}
 use mathlib.Core.Logic.{_⊎_, ⊎-elim}
-use mathlib.Core.List.{List, [], _∷_, _++_}
+use mathlib.Core.List.{List}
 use Prim.Native.Nat.{ℕ, zero, suc, _+_, _-_, _≤_, _<_}
 use native.Mathlib.Omega.{arith}
+use native.Mathlib.Nat.{zero-add}
 use native.Mathlib.Numerals.{add-one}
 use borrow.Author.Tests.{eq-eqb, ne-eqb}
-use lib.ListN.{length, getD, length-append, List·getD-append}
-use lib.Seq.{getD-at, ext-getD}
-use Rattle.ints.specs.Sums.{sumTo, table, one}
+use lib.ListN.{length, getD}
+use lib.Seq.{ext-getD}
+use Rattle.ints.specs.Sums.{sumTo, values, one}
 use Rattle.ints.proofs.Tests.{last}
 
 -- the turn of a loop that sums
@@ -40,26 +41,29 @@ sum-change f g p (suc n) l h =
     (λ (m : p < n). omega (arith, sum-change f g p n m (λ k m' q. h k (omega arith) q), h n (omega arith) (λ q. omega arith)))
     (last l)
 
--- a table's length and its entries
-pub length-table : {A : Type 0} (f : ℕ → A) (n : ℕ) → length (table f n) ≡ n
-unfolding table
-length-table f zero = refl
-length-table f (suc n) = length-append (table f n) (f n ∷ []) ∙ omega (arith, length-table f n)
+-- a list of values: its length and what stands where
+pub length-values : {A : Type 0} (f : ℕ → A) (i n : ℕ) → length (values f i n) ≡ n
+unfolding values
+length-values f i zero = refl
+length-values f i (suc n) = ap suc (length-values f (suc i) n)
 
-pub getD-table : {A : Type 0} (f : ℕ → A) (n k : ℕ) (d : A) → k < n → getD (table f n) k d ≡ f k
-unfolding table
-getD-table f zero k d h = absurd (omega arith)
-getD-table f (suc n) k d h =
-    ⊎-elim
-    (λ (e : k ≡ n). getD-at (table f n) (f n) [] d k (length-table f n ∙ sym e) ∙ ap f (sym e))
-    (λ (l : k < n). List·getD-append (table f n) (f n ∷ []) d k (omega (arith, length-table f n)) ∙ getD-table f n k d l)
-    (last h)
+pub getD-values : {A : Type 0} (f : ℕ → A) (i n k : ℕ) (d : A) → k < n → getD (values f i n) k d ≡ f (i + k)
+unfolding values
+getD-values f i zero k d h = absurd (omega arith)
+getD-values f i (suc n) zero d h = let e : i ≡ i + zero = omega arith in ap f e
+getD-values f i (suc n) (suc k) d h =
+    let e : suc i + k ≡ i + suc k = omega arith in
+    getD-values f (suc i) n k d (omega arith) ∙ ap f e
+
+-- the values from 0 on are a table of f
+pub table-at : {A : Type 0} (f : ℕ → A) (n k : ℕ) (d : A) → k < n → getD (values f 0 n) k d ≡ f k
+table-at f n k d h = getD-values f 0 n k d h ∙ ap f (zero-add k)
 
 -- a list whose entries are those of a table is the table
-pub table-is : {A : Type 0} (f : ℕ → A) (n : ℕ) (l : List A) (d : A) → length l ≡ n → ((k : ℕ) → k < n → getD l k d ≡ f k) → l ≡ table f n
+pub table-is : {A : Type 0} (f : ℕ → A) (n : ℕ) (l : List A) (d : A) → length l ≡ n → ((k : ℕ) → k < n → getD l k d ≡ f k) → l ≡ values f 0 n
 table-is f n l d e h =
-    ext-getD d l (table f n) (e ∙ sym (length-table f n))
-    (λ k m. h k (omega arith) ∙ sym (getD-table f n k d (omega arith)))
+    ext-getD d l (values f 0 n) (e ∙ sym (length-values f 0 n))
+    (λ k m. h k (omega arith) ∙ sym (table-at f n k d (omega arith)))
 
 -- the first part, in front
 pub sum-front : (f : ℕ → ℕ) (n : ℕ) → sumTo f (suc n) ≡ f 0 + sumTo (λ k. f (suc k)) n

@@ -1,6 +1,6 @@
 -- Tests as facts: what `_&&_`, `all` and `cond` tell, and are told by.
 use mathlib.Core.Path.{_≡_, refl, sym, ap, _∙_}
-use mathlib.Core.Bool.{Bool, true, false, cond, _&&_}
+use mathlib.Core.Bool.{Bool, true, false, cond, _&&_, and-false}
 use mathlib.Core.Logic.{_⊎_, inl, inr, ⊎-elim}
 use Prim.Native.Nat.{ℕ, zero, suc, _+_, _≤_, _<_}
 use native.Mathlib.Nat.{eq-or-lt-of-le, le-of-suc-le-suc}
@@ -15,8 +15,8 @@ pub one-answer : {A : Type 0} {a r s : A} → r ≡ a → s ≡ a → r ≡ s
 one-answer p q = p ∙ sym q
 
 -- a number is below k, or not
-pub below-or : (n k : ℕ) → (n < k) ⊎ (k ≤ n)
-below-or n k = go (ltb n k) refl
+pub lt-or-le : (n k : ℕ) → (n < k) ⊎ (k ≤ n)
+lt-or-le n k = go (ltb n k) refl
   where
     go : (t : Bool) → ltb n k ≡ t → (n < k) ⊎ (k ≤ n)
     go true e = inl (ltb-true n k e)
@@ -29,10 +29,6 @@ last h = eq-or-lt-of-le (le-of-suc-le-suc h)
 -- the same at the code's n + 1
 pub last-more : {k : ℕ} (n : ℕ) → k < n + 1 → (k ≡ n) ⊎ (k < n)
 last-more n h = last (rw add-one at h)
-
-pub and-false : (a : Bool) → a && false ≡ false
-and-false true = refl
-and-false false = refl
 
 pub and-left : (a b : Bool) → a && b ≡ true → a ≡ true
 and-left true b e = refl

@@ -1,6 +1,6 @@
--- Sums, tests and tables over the numbers below n.
+-- Sums, tests and lists of values over numbers in a row.
 use mathlib.Core.Bool.{Bool, true, cond, _&&_}
-use mathlib.Core.List.{List, [], _∷_, _++_}
+use mathlib.Core.List.{List, [], _∷_}
 use Prim.Native.Nat.{ℕ, zero, suc, _+_}
 use lib.Dec.{eqb}
 
@@ -14,10 +14,10 @@ unfoldable pub all : (ℕ → Bool) → ℕ → Bool
 all f zero = true
 all f (suc n) = all f n && f n
 
--- f 0, f 1, .., f (n - 1)
-unfoldable pub table : {A : Type 0} → (ℕ → A) → ℕ → List A
-table f zero = []
-table f (suc n) = table f n ++ (f n ∷ [])
+-- f i, f (i + 1), .., n of them
+unfoldable pub values : {A : Type 0} → (ℕ → A) → ℕ → ℕ → List A
+values f i zero = []
+values f i (suc n) = f i ∷ values f (suc i) n
 
 -- 1 where i is p, else 0
 unfoldable pub one : ℕ → ℕ → ℕ

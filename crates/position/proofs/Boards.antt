@@ -17,7 +17,7 @@ use Rattle.ints.specs.Signed.{posPart, negPart, Small}
 use Rattle.ints.specs.Sums.{sumTo}
 use Rattle.ints.proofs.Signed.{apart, in-range, same-parts}
 use Rattle.ints.proofs.Sums.{part-le}
-use Rattle.ints.proofs.Tests.{below-or}
+use Rattle.ints.proofs.Tests.{lt-or-le}
 use Rattle.position.specs.Board.{entry, xs, os, xAll, oAll, refusalOf, Accepted}
 use Rattle.position.specs.Answers.{Judged}
 
@@ -66,10 +66,10 @@ judged n b l =
     ⊎-elim (λ h. is (judged-3 n b hx ho h)) (λ hb.
     ⊎-elim (λ h. is (judged-4 n b hx ho (omega arith) h)) (λ h.
     is (judged-0 n b hx ho (omega arith) (omega arith) l))
-    (below-or 0 (xs b 0)))
-    (below-or 0 (os b 25)))
-    (below-or n (oAll b)))
-    (below-or n (xAll b))
+    (lt-or-le 0 (xs b 0)))
+    (lt-or-le 0 (os b 25)))
+    (lt-or-le n (oAll b)))
+    (lt-or-le n (xAll b))
   where
     is : {k : ℕ} → Judged n b k → Judged n b (refusalOf n b)
     is {k} j = let e = j .is in record { is = refl; ok = λ z. j .ok (omega arith) }

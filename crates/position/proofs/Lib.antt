@@ -6,3 +6,4 @@ pub mod StepCode
 pub mod SideSwitch
 pub mod Phases
 pub mod Answering
+pub mod Unique

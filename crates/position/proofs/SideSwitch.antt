@@ -9,17 +9,17 @@ use lib.ListN.{length}
 use lib.Seq.{ext-getD}
 use Rattle.ints.specs.Signed.{posPart, negPart}
 use Rattle.ints.proofs.Signed.{neg-posPart, neg-negPart}
-use Rattle.ints.proofs.Sums.{length-table, getD-table, sum-turned}
+use Rattle.ints.proofs.Sums.{length-values, table-at, sum-turned}
 use Rattle.position.specs.Board.{Accepted, entry, xs, os, xAll, oAll, switched}
 
 module _ (b : List ℤ) where
   pub switched-size : length (switched b) ≡ 26
   unfolding switched
-  switched-size = length-table _ 26
+  switched-size = length-values _ 0 26
 
   pub switched-at : (k : ℕ) → k < 26 → entry (switched b) k ≡ negℤ (entry b (25 - k))
   unfolding switched
-  switched-at k h = getD-table _ 26 k (pos 0) h
+  switched-at k h = table-at _ 26 k (pos 0) h
 
   -- x's checkers are where o's were, from the other end, and o's where x's were
   pub switched-xs : (k : ℕ) → k < 26 → xs (switched b) k ≡ os b (25 - k)

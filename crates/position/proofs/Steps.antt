@@ -2,7 +2,7 @@
 -- Assumes nothing.
 use mathlib.Core.Path.{_≡_, refl, sym, ap, _∙_}
 use mathlib.Core.Logic.{_≢_, _⊎_, inl, inr}
-use mathlib.Core.Bool.{Bool, true, false, cond, _&&_}
+use mathlib.Core.Bool.{Bool, true, false, cond, _&&_, and-false}
 use mathlib.Core.List.{List}
 use Prim.Native.Nat.{ℕ, _+_, _-_, _≤_, _<_}
 use native.Mathlib.Decide.{ℕ-discrete, decLt}
@@ -15,7 +15,7 @@ use Rattle.ints.specs.Signed.{posPart, negPart}
 use Rattle.ints.specs.Sums.{sumTo, all, one}
 use Rattle.ints.proofs.Signed.{pred-above, pred-below, suc-above}
 use Rattle.ints.proofs.Sums.{sum-same, sum-zero, sum-plus, sum-one, one-same, one-other}
-use Rattle.ints.proofs.Tests.{and-false, and-left, and-right, and-both, all-yes, all-no, all-at}
+use Rattle.ints.proofs.Tests.{and-left, and-right, and-both, all-yes, all-no, all-at}
 use Rattle.position.specs.Board.{entry, xs, os, xAll, oAll, Accepted}
 use Rattle.position.specs.Step.{clearFrom, offFrom, canStep, Legal, lifted, landed, stepped}
 use Rattle.position.proofs.Boards.{apart-at, has-entry, xs-set-same, os-set-same, xs-set-other, os-set-other}

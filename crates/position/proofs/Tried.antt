@@ -5,7 +5,8 @@ use mathlib.Core.List.{List, [], _∷_}
 use lib.IntN.{ℤ, pos, negsuc}
 use lib.ListN.{set, replicate}
 use Rattle.ints.specs.Answer.{value, refused}
-use Rattle.ints.specs.Sums.{sumTo, all, table}
+use Rattle.ints.specs.Sums.{sumTo, all, values}
+use Rattle.dice.specs.Dice.{isDie}
 use Rattle.position.specs.Board.{checkers, refusalOf, switched}
 use Rattle.position.specs.Step.{clearFrom, offFrom, canStep, lifted, landed, stepped, stepRefusal}
 use Rattle.position.specs.Phase.{highest, lowest, phaseOf, phaseAnswer}
@@ -29,7 +30,7 @@ start-accepted = refl
 
 -- seen from the other side, the start board is itself
 start-switched : switched start ≡ start
-unfolding switched table
+unfolding switched values
 start-switched = refl
 
 start-contact : phaseAnswer checkers start ≡ value 0
@@ -65,18 +66,18 @@ unfolding canStep clearFrom offFrom all
 off = refl
 
 below-the-highest : stepRefusal checkers (set two-blots 4 (pos 1)) 4 6 ≡ 9
-unfolding stepRefusal refusalOf sumTo canStep clearFrom offFrom all
+unfolding stepRefusal refusalOf sumTo isDie canStep clearFrom offFrom all
 below-the-highest = refl
 
 -- from point 0 the answer is 9, from 26 it is 8, and a die of 7 is refused first
 from-zero : stepRefusal checkers start 0 1 ≡ 9
-unfolding stepRefusal refusalOf sumTo canStep
+unfolding stepRefusal refusalOf sumTo isDie canStep
 from-zero = refl
 
 from-26 : stepRefusal checkers start 26 1 ≡ 8
-unfolding stepRefusal refusalOf sumTo
+unfolding stepRefusal refusalOf sumTo isDie
 from-26 = refl
 
 die-first : stepRefusal checkers start 26 7 ≡ 7
-unfolding stepRefusal refusalOf sumTo
+unfolding stepRefusal refusalOf sumTo isDie
 die-first = refl

@@ -7,7 +7,7 @@ use lib.Dec.{ltb}
 use lib.IntN.{ℤ, pos, negℤ}
 use lib.ListN.{length, getD}
 use Rattle.ints.specs.Signed.{posPart, negPart}
-use Rattle.ints.specs.Sums.{sumTo, table}
+use Rattle.ints.specs.Sums.{sumTo, values}
 
 -- "The board": each side plays with fifteen checkers; a checker that is not on the board is off
 abbrev pub checkers : ℕ
@@ -50,4 +50,4 @@ pub record Accepted (n : ℕ) (b : List ℤ) : Type 0 where
 
 -- "Side switch": entry 25 - i of the new board is minus entry i of the old
 unfoldable pub switched : List ℤ → List ℤ
-switched b = table (λ i. negℤ (entry b (25 - i))) 26
+switched b = values (λ i. negℤ (entry b (25 - i))) 0 26

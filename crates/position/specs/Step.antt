@@ -1,12 +1,13 @@
 -- A single step of one checker (document 01, "Steps and ends"): when it is legal, and the board after it.
 use mathlib.Core.Path.{_≡_}
-use mathlib.Core.Bool.{Bool, cond, _&&_, _||_}
+use mathlib.Core.Bool.{Bool, cond, _&&_}
 use mathlib.Core.List.{List}
 use Prim.Native.Nat.{ℕ, _+_, _-_, _≤_, _<_}
 use lib.Dec.{ltb, leb, eqb}
 use lib.IntN.{ℤ, pos, sucℤ, predℤ}
 use lib.ListN.{set}
 use Rattle.ints.specs.Sums.{all}
+use Rattle.dice.specs.Dice.{isDie}
 use Rattle.position.specs.Board.{entry, xs, os, refusalOf}
 
 -- "Steps and ends": no x stands on the points from lo to 24
@@ -47,6 +48,4 @@ stepped b p d = cond (ltb d p) (landed (lifted b p) (p - d)) (lifted b p)
 unfoldable pub stepRefusal : ℕ → List ℤ → ℕ → ℕ → ℕ
 stepRefusal n b p d =
     cond (ltb 0 (refusalOf n b)) (refusalOf n b)
-    (cond (ltb d 1 || ltb 6 d) 7
-    (cond (ltb 25 p) 8
-    (cond (canStep b p d) 0 9)))
+    (cond (isDie d) (cond (ltb 25 p) 8 (cond (canStep b p d) 0 9)) 7)

@@ -68,10 +68,7 @@ pub fn try_move_single_checker(b: [i8; 26], from: usize, die: usize) -> BoardAns
     if n != 0 {
         return refused(n);
     }
-    if die < 1 {
-        return refused(7);
-    }
-    if die > 6 {
+    if !dice::is_die(die) {
         return refused(7);
     }
     if from > X_BAR {

@@ -1,0 +1,5 @@
+-- Laws that belong to no one function.
+pub mod Pairs
+pub mod TwoDice
+pub mod Bytes
+pub mod Unique
