@@ -1,0 +1,21 @@
+-- Two answers, and two states of lent memory, that meet one promise are equal, for each entry.
+use mathlib.Core.Path.{_≡_}
+use mathlib.Core.List.{List}
+use Prim.Native.Nat.{ℕ}
+use lib.IntN.{ℤ}
+use Rattle.ints.specs.Answer.{packed}
+use Rattle.ints.proofs.Tests.{one-answer}
+use Rattle.position.specs.Board.{checkers, refusalOf}
+use Rattle.position.specs.Phase.{phaseAnswer}
+use Rattle.position.specs.declared.BoardAnswer.{BoardAnswer}
+use Rattle.munchalep.specs.Lent.{Put}
+
+pub check-unique : (b : List ℤ) (r s : ℕ) → r ≡ refusalOf checkers b → s ≡ refusalOf checkers b → r ≡ s
+check-unique b r s p q = one-answer p q
+
+-- of every entry that answers a board: `munchalep_switch` and `munchalep_step`
+pub put-unique : (a : BoardAnswer) (out : List ℤ) (r s : ℕ) (l m : List ℤ) → Put a out r l → Put a out s m → (r ≡ s) × (l ≡ m)
+put-unique a out r s l m p q = (one-answer (p .number) (q .number), one-answer (p .lent) (q .lent))
+
+pub result-unique : (b : List ℤ) (r s : ℕ) → r ≡ packed (phaseAnswer checkers b) → s ≡ packed (phaseAnswer checkers b) → r ≡ s
+result-unique b r s p q = one-answer p q

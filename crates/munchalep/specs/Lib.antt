@@ -1,0 +1,2 @@
+-- What the C interface leaves in lent memory.
+pub mod Lent

@@ -1,0 +1,74 @@
+// The C interface: thin functions over the proved crates, declared for C in include/munchalep.h.
+// Every function answers one number: the refusal's in the low byte, 0 for none, and 256 times the value above it. A board that is
+// answered goes to an out parameter, which a refusal leaves as it was.
+use position::BoardAnswer;
+use position::phase::GamePhase;
+
+ghost use mathlib.Core.Path.{_≡_};
+ghost use Rattle.ints.specs.Answer.{packed};
+ghost use Rattle.position.specs.Board.{checkers, refusalOf};
+ghost use Rattle.position.specs.Phase.{phaseAnswer};
+ghost use Rattle.position.specs.Answers.{switchAnswer, stepAnswer, phaseTold};
+ghost use Rattle.munchalep.specs.Lent.{Put};
+
+// The refusal of a board, 1 to 4, or 0.
+#[no_mangle]
+pub extern "C" fn munchalep_check(board: &[i8; 26]) -> u64
+    ensures { λ r. ⌜ r ≡ refusalOf checkers (now (board .entry)) ⌝ }
+{
+    position::refusal(*board) as u64
+}
+
+// The board seen from the other side.
+#[no_mangle]
+pub extern "C" fn munchalep_switch(board: &[i8; 26], out: &mut [i8; 26]) -> u64
+    ensures { λ r. ⌜ Put (switchAnswer checkers (now (board .entry))) (now (out .entry)) r (now (out .exit)) ⌝ }
+{
+    put(position::switch(*board), out)
+}
+
+// The board, unswitched, after one checker moves from a point by a die.
+#[no_mangle]
+pub extern "C" fn munchalep_step(board: &[i8; 26], from: usize, die: usize, out: &mut [i8; 26]) -> u64
+    ensures { λ r. ⌜ Put (stepAnswer checkers (now (board .entry)) from die) (now (out .entry)) r (now (out .exit)) ⌝ }
+{
+    put(position::try_move_single_checker(*board, from, die), out)
+}
+
+// The number of result and phase, 0 to 7, as the value.
+#[no_mangle]
+pub extern "C" fn munchalep_result(board: &[i8; 26]) -> u64
+    ensures { λ r. ⌜ r ≡ packed (phaseAnswer checkers (now (board .entry))) ⌝ }
+{
+    number(position::phase::game_phase(*board))
+}
+
+// The answer's number; its board, if it has one, goes to `out`.
+fn put(answer: BoardAnswer, out: &mut [i8; 26]) -> u64
+    ensures { λ r. ⌜ Put answer (now (out .entry)) r (now (out .exit)) ⌝ }
+{
+    let refused = answer.refused;
+    if refused != 0 {
+        return refused as u64;
+    }
+    let board = answer.board;
+    *out = board;
+    0
+}
+
+// The number of each case of result and phase.
+fn number(phase: GamePhase) -> u64
+    ensures { λ r. ⌜ r ≡ packed (phaseTold phase) ⌝ }
+{
+    match phase {
+        GamePhase::Contact => 0,
+        GamePhase::Race => 256,
+        GamePhase::WinNormal => 2 * 256,
+        GamePhase::WinGammon => 3 * 256,
+        GamePhase::WinBg => 4 * 256,
+        GamePhase::LoseNormal => 5 * 256,
+        GamePhase::LoseGammon => 6 * 256,
+        GamePhase::LoseBg => 7 * 256,
+        GamePhase::Refused(number) => number as u64,
+    }
+}
