@@ -3,7 +3,6 @@
 // answered goes to an out parameter, which a refusal leaves as it was.
 use position::BoardAnswer;
 use position::phase::GamePhase;
-
 ghost use mathlib.Core.Path.{_≡_};
 ghost use Rattle.ints.specs.Answer.{packed};
 ghost use Rattle.position.specs.Board.{checkers, refusalOf};
@@ -29,7 +28,12 @@ pub extern "C" fn munchalep_switch(board: &[i8; 26], out: &mut [i8; 26]) -> u64
 
 // The board, unswitched, after one checker moves from a point by a die.
 #[no_mangle]
-pub extern "C" fn munchalep_step(board: &[i8; 26], from: usize, die: usize, out: &mut [i8; 26]) -> u64
+pub extern "C" fn munchalep_step(
+    board: &[i8; 26],
+    from: usize,
+    die: usize,
+    out: &mut [i8; 26],
+) -> u64
     ensures { λ r. ⌜ Put (stepAnswer checkers (now (board .entry)) from die) (now (out .entry)) r (now (out .exit)) ⌝ }
 {
     put(position::try_move_single_checker(*board, from, die), out)

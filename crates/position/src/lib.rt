@@ -158,7 +158,7 @@ pub fn can_move(b: &[i8; 26], from: usize, die: usize) -> bool
             return false;
         }
     }
-    if from > die {
+    if die < from {
         return b[from - die] > -2;
     }
     if from == die {
