@@ -7,7 +7,7 @@ use mathlib.Core.Logic.{_≢_, ⊎-elim}
 use Prim.Native.Nat.{ℕ, _+_, _-_, _≤_, _<_}
 use native.Mathlib.Decide.{decLt}
 use native.Mathlib.Omega.{arith}
-use borrow.Author.Tests.{lt-ltb, le-ltb}
+use borrow.Author.Tests.{lt-ltb, le-ltb, eq-eqb, ne-eqb}
 use lib.Dec.{ltb}
 use lib.IntN.{ℤ, pos}
 use lib.ListN.{length, getD, set, List·getD-eq-default}
@@ -18,8 +18,8 @@ use Rattle.ints.specs.Sums.{sumTo}
 use Rattle.ints.proofs.Signed.{apart, in-range, same-parts}
 use Rattle.ints.proofs.Sums.{part-le}
 use Rattle.ints.proofs.Tests.{lt-or-le}
-use Rattle.position.specs.Board.{entry, xs, os, xAll, oAll, refusalOf, Accepted}
-use Rattle.position.specs.Answers.{Judged}
+use Rattle.position.specs.Board.{entry, xs, os, xAll, oAll, refusalOf, startRefusal, Accepted}
+use Rattle.position.specs.Answers.{Judged, Started}
 
 -- ---- the refusals, in their order
 
@@ -76,6 +76,48 @@ judged n b l =
 
 pub unrefused-accepted : (n : ℕ) (b : List ℤ) → length b ≡ 26 → refusalOf n b ≡ 0 → Accepted n b
 unrefused-accepted n b l e = judged n b l .ok e
+
+-- ---- a board from which a play is asked or a card starts
+
+module _ (n : ℕ) (b : List ℤ) where
+  pub started-board : {r : ℕ} → Judged n b r → (r ≡ 0 → ⊥) → Started n b r
+  unfolding startRefusal
+  started-board {r} j h =
+      let e = j .is in
+      record { is = e ∙ rw (lt-ltb 0 (refusalOf n b) (omega (arith, h))); ok = j .ok }
+
+  module _ (ok : refusalOf n b ≡ 0) where
+    pub started-6 : xAll b ≡ 0 → oAll b ≡ 0 → Started n b 6
+    unfolding startRefusal
+    started-6 x o = record {
+      is = rw (le-ltb 0 (refusalOf n b) (omega arith), eq-eqb (xAll b + oAll b) 0 (omega arith));
+      ok = λ e. absurd (omega arith);
+    }
+
+    pub started-5-x : xAll b ≡ 0 → 0 < xAll b + oAll b → Started n b 5
+    unfolding startRefusal
+    started-5-x x s = record {
+      is = rw (le-ltb 0 (refusalOf n b) (omega arith), ne-eqb (xAll b + oAll b) 0 (λ e. omega arith), eq-eqb (xAll b) 0 x);
+      ok = λ e. absurd (omega arith);
+    }
+
+    pub started-5-o : 0 < xAll b → oAll b ≡ 0 → Started n b 5
+    unfolding startRefusal
+    started-5-o x o = record {
+      is =
+          rw (le-ltb 0 (refusalOf n b) (omega arith), ne-eqb (xAll b + oAll b) 0 (λ e. omega arith), ne-eqb (xAll b) 0 (λ e. omega arith), eq-eqb (oAll b) 0 o);
+      ok = λ e. absurd (omega arith);
+    }
+
+  pub started-0 : Accepted n b → 0 < xAll b → 0 < oAll b → Started n b 0
+  unfolding startRefusal
+  started-0 a x o =
+      let z = accepted-unrefused n b a in
+      record {
+        is =
+            rw (le-ltb 0 (refusalOf n b) (omega arith), ne-eqb (xAll b + oAll b) 0 (λ e. omega arith), ne-eqb (xAll b) 0 (λ e. omega arith), ne-eqb (oAll b) 0 (λ e. omega arith));
+        ok = λ e. a;
+      }
 
 -- ---- entries
 

@@ -17,7 +17,7 @@ use Rattle.ints.proofs.Signed.{pred-above, pred-below, suc-above}
 use Rattle.ints.proofs.Sums.{sum-same, sum-zero, sum-plus, sum-one, one-same, one-other}
 use Rattle.ints.proofs.Tests.{and-left, and-right, and-both, all-yes, all-no, all-at}
 use Rattle.position.specs.Board.{entry, xs, os, xAll, oAll, Accepted}
-use Rattle.position.specs.Step.{clearFrom, offFrom, canStep, Legal, lifted, landed, stepped}
+use Rattle.position.specs.Step.{Good, clearFrom, offFrom, canStep, Legal, lifted, landed, stepped}
 use Rattle.position.proofs.Boards.{apart-at, has-entry, xs-set-same, os-set-same, xs-set-other, os-set-other}
 
 -- ---- no x from a point on
@@ -123,10 +123,6 @@ module _ (b : List ℤ) (p d : ℕ) where
   bar-empty n e = rw (ne-eqb p 25 n) (eq-eqb (xs b 25) 0 e)
 
 -- ---- what a step needs of a board
-
-pub record Good (b : List ℤ) : Type 0 where
-  pub size : length b ≡ 26
-  pub o-bar : xs b 0 ≡ 0
 
 pub accepted-good : {n : ℕ} {b : List ℤ} → Accepted n b → Good b
 accepted-good a = record { size = a .size; o-bar = a .o-bar }

@@ -7,7 +7,7 @@ use lib.ListN.{getD}
 use Rattle.ints.specs.Answer.{Answer, value, refused}
 use Rattle.ints.proofs.Tests.{one-answer}
 use Rattle.position.specs.Phase.{phaseAnswer}
-use Rattle.position.specs.Answers.{Judged, switchAnswer, stepAnswer, phaseTold}
+use Rattle.position.specs.Answers.{Judged, Started, switchAnswer, stepAnswer, phaseTold}
 use Rattle.position.specs.declared.BoardAnswer.{BoardAnswer}
 use Rattle.position.specs.declared.phase.GamePhase.{GamePhase}
 use Rattle.position.specs.declared.phase.GamePhase.the-variants.{Contact, Race, WinNormal, WinGammon, WinBg, LoseNormal, LoseGammon, LoseBg, Refused}
@@ -41,3 +41,6 @@ told-back (Refused n) = refl
 
 pub phase-unique : (n : ℕ) (b : List ℤ) (r s : GamePhase) → phaseTold r ≡ phaseAnswer n b → phaseTold s ≡ phaseAnswer n b → r ≡ s
 phase-unique n b r s p q = sym (told-back r) ∙ ap back (one-answer p q) ∙ told-back s
+
+pub start-refusal-unique : (n : ℕ) (b : List ℤ) (r s : ℕ) → Started n b r → Started n b s → r ≡ s
+start-refusal-unique n b r s p q = one-answer (p .is) (q .is)

@@ -7,9 +7,10 @@ use lib.Dec.{eqb}
 use lib.IntN.{ℤ, pos}
 use lib.ListN.{replicate}
 use Rattle.ints.specs.Answer.{Answer, value, refused}
-use Rattle.position.specs.Board.{Accepted, refusalOf, switched}
+use Rattle.position.specs.Board.{Accepted, xAll, oAll, refusalOf, startRefusal, switched}
 use Rattle.position.specs.Step.{stepped, stepRefusal}
 use Rattle.position.specs.declared.BoardAnswer.{BoardAnswer}
+use Rattle.position.specs.declared.Checked.{Checked}
 use Rattle.position.specs.declared.phase.GamePhase.{GamePhase}
 use Rattle.position.specs.declared.phase.GamePhase.the-variants.{Contact, Race, WinNormal, WinGammon, WinBg, LoseNormal, LoseGammon, LoseBg, Refused}
 
@@ -17,6 +18,17 @@ use Rattle.position.specs.declared.phase.GamePhase.the-variants.{Contact
 pub record Judged (n : ℕ) (b : List ℤ) (r : ℕ) : Type 0 where
   pub is : r ≡ refusalOf n b
   pub ok : r ≡ 0 → Accepted n b
+
+-- the same where a play is asked or a card starts
+pub record Started (n : ℕ) (b : List ℤ) (r : ℕ) : Type 0 where
+  pub is : r ≡ startRefusal n b
+  pub ok : r ≡ 0 → Accepted n b
+
+-- the check of a board with both sides' checkers counted
+pub record Counted (n : ℕ) (b : List ℤ) (r : Checked) : Type 0 where
+  pub judged : Judged n b (r .refused)
+  pub x : r .all .x ≡ xAll b
+  pub o : r .all .o ≡ oAll b
 
 -- what stands beside a refusal's number in place of a board: zeros
 abbrev pub noBoard : List ℤ

@@ -1,9 +1,9 @@
 -- The board and its side switch (document 01, "The board", "Refusal numbers"). Every rule is said over x's and o's checkers at an entry.
 use mathlib.Core.Path.{_≡_}
-use mathlib.Core.Bool.{cond}
+use mathlib.Core.Bool.{cond, _||_}
 use mathlib.Core.List.{List}
-use Prim.Native.Nat.{ℕ, _-_, _≤_}
-use lib.Dec.{ltb}
+use Prim.Native.Nat.{ℕ, _+_, _-_, _≤_}
+use lib.Dec.{ltb, eqb}
 use lib.IntN.{ℤ, pos, negℤ}
 use lib.ListN.{length, getD}
 use Rattle.ints.specs.Signed.{posPart, negPart}
@@ -39,6 +39,13 @@ refusalOf n b =
     (cond (ltb n (oAll b)) 2
     (cond (ltb 0 (os b 25)) 3
     (cond (ltb 0 (xs b 0)) 4 0)))
+
+-- "Refusal numbers" 6 and 5, after 1 to 4, where a play is asked or a card starts: neither side has a checker on the board; one side has all off
+unfoldable pub startRefusal : ℕ → List ℤ → ℕ
+startRefusal n b =
+    cond (ltb 0 (refusalOf n b)) (refusalOf n b)
+    (cond (eqb (xAll b + oAll b) 0) 6
+    (cond (eqb (xAll b) 0 || eqb (oAll b) 0) 5 0))
 
 -- "The board": 26 entries, at most n checkers a side, and on each bar only its own side's
 pub record Accepted (n : ℕ) (b : List ℤ) : Type 0 where

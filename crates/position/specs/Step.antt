@@ -5,10 +5,15 @@ use mathlib.Core.List.{List}
 use Prim.Native.Nat.{ℕ, _+_, _-_, _≤_, _<_}
 use lib.Dec.{ltb, leb, eqb}
 use lib.IntN.{ℤ, pos, sucℤ, predℤ}
-use lib.ListN.{set}
+use lib.ListN.{length, set}
 use Rattle.ints.specs.Sums.{all}
 use Rattle.dice.specs.Dice.{isDie}
 use Rattle.position.specs.Board.{entry, xs, os, refusalOf}
+
+-- what a step needs of a board: 26 entries, and no x on o's bar; every accepted board has both
+pub record Good (b : List ℤ) : Type 0 where
+  pub size : length b ≡ 26
+  pub o-bar : xs b 0 ≡ 0
 
 -- "Steps and ends": no x stands on the points from lo to 24
 unfoldable pub clearFrom : List ℤ → ℕ → Bool

@@ -8,7 +8,7 @@ ghost use Rattle.ints.specs.Signed.{Small};
 ghost use Rattle.ints.specs.Sums.{sumTo};
 ghost use Rattle.position.specs.Board.{checkers, Accepted, xs, os, switched};
 ghost use Rattle.position.specs.Step.{clearFrom, canStep, stepped};
-ghost use Rattle.position.specs.Answers.{Judged, boardAnswer, switchAnswer, stepAnswer, noBoard};
+ghost use Rattle.position.specs.Answers.{Judged, Started, Counted, switchAnswer, stepAnswer, noBoard};
 
 pub const NUM_OF_CHECKERS: u32 = 15;
 
@@ -28,22 +28,37 @@ pub struct Checkers {
     pub o: u32,
 }
 
-// The number of the first refusal of any 26 entries, 1 to 4, or 0 where they are accepted. Sums are whole numbers: none can wrap.
+// The number of a board's refusal, 0 where it is accepted, and both sides' checkers.
+pub struct Checked {
+    pub refused: u8,
+    pub all: Checkers,
+}
+
+// The number of the first refusal of any 26 entries, 1 to 4, or 0 where they are accepted.
 pub fn refusal(b: [i8; 26]) -> u8
     ensures { λ r. ⌜ Judged checkers b r ⌝ }
 {
-    let all = checkers_below(&b, 26);
-    if all.x > NUM_OF_CHECKERS {
-        return 1;
+    check(b).refused
+}
+
+// The number of the first refusal of a board from which a play is asked or a card starts, 1 to 4, 6, 5, or 0.
+pub fn start_refusal(b: [i8; 26]) -> u8
+    ensures { λ r. ⌜ Started checkers b r ⌝ }
+{
+    let checked = check(b);
+    if checked.refused != 0 {
+        return checked.refused;
     }
-    if all.o > NUM_OF_CHECKERS {
-        return 2;
+    let x = checked.all.x;
+    let o = checked.all.o;
+    if x + o == 0 {
+        return 6;
     }
-    if b[X_BAR] < 0 {
-        return 3;
+    if x == 0 {
+        return 5;
     }
-    if b[O_BAR] > 0 {
-        return 4;
+    if o == 0 {
+        return 5;
     }
     0
 }
@@ -81,7 +96,7 @@ pub fn try_move_single_checker(b: [i8; 26], from: usize, die: usize) -> BoardAns
 }
 
 // A refusal's answer: its number and nothing else.
-fn refused(n: u8) -> BoardAnswer
+pub fn refused(n: u8) -> BoardAnswer
     ensures { λ r. ⌜ (r .refused ≡ n) × (r .board ≡ noBoard) ⌝ }
 {
     let none = [0i8; 26];
@@ -91,13 +106,34 @@ fn refused(n: u8) -> BoardAnswer
     }
 }
 
-fn answered(b: [i8; 26]) -> BoardAnswer
+// The answer of a board.
+pub fn answered(b: [i8; 26]) -> BoardAnswer
     ensures { λ r. ⌜ (r .refused ≡ 0) × (r .board ≡ b) ⌝ }
 {
     BoardAnswer {
         refused: 0,
         board: b,
     }
+}
+
+// The refusal of any 26 entries, and both sides' checkers. Sums are whole numbers: none can wrap.
+pub fn check(b: [i8; 26]) -> Checked
+    ensures { λ r. ⌜ Counted checkers b r ⌝ }
+{
+    let all = checkers_below(&b, 26);
+    if all.x > NUM_OF_CHECKERS {
+        return Checked { refused: 1, all };
+    }
+    if all.o > NUM_OF_CHECKERS {
+        return Checked { refused: 2, all };
+    }
+    if b[X_BAR] < 0 {
+        return Checked { refused: 3, all };
+    }
+    if b[O_BAR] > 0 {
+        return Checked { refused: 4, all };
+    }
+    Checked { refused: 0, all }
 }
 
 // Both sides' checkers on the entries below n.

@@ -21,13 +21,12 @@ pub enum GamePhase {
 pub fn game_phase(b: [i8; 26]) -> GamePhase
     ensures { λ r. ⌜ phaseTold r ≡ phaseAnswer checkers b ⌝ }
 {
-    let n = crate::refusal(b);
-    if n != 0 {
-        return GamePhase::Refused(n);
+    let checked = crate::check(b);
+    if checked.refused != 0 {
+        return GamePhase::Refused(checked.refused);
     }
-    let all = crate::checkers_below(&b, 26);
-    let x = all.x;
-    let o = all.o;
+    let x = checked.all.x;
+    let o = checked.all.o;
     if x == 0 {
         if o == 0 {
             return GamePhase::Refused(6);

@@ -1,2 +1,17 @@
 -- Theorems of plays and ends, each file by what it is about.
+pub mod Dice
+pub mod Plays
+pub mod Lists
+pub mod Two
+pub mod Commute
+pub mod Marks
+pub mod Doubles
+pub mod Mixed
+pub mod Exact
+pub mod Repeats
+pub mod Bound
+pub mod Accepted
+pub mod Switched
+pub mod Boards
+pub mod Starred
 pub mod Tried

@@ -1,30 +1,31 @@
--- The list computed at closed boards: the start board's number of ends.
+-- How many ends some boards have, computed.
 use mathlib.Core.Path.{_≡_, refl}
 use mathlib.Core.List.{List, [], _∷_}
 use lib.IntN.{ℤ, pos, negsuc}
-use lib.ListN.{length, replicate}
+use lib.ListN.{length}
 use Rattle.ints.specs.Sums.{all}
 use Rattle.position.specs.Step.{canStep, clearFrom, offFrom, stepped, lifted, landed}
 use Rattle.rules.specs.Ends.{endsOf}
+use Rattle.rules.specs.Cases.{blank, x, o}
 
 abbrev start : List ℤ
-start =
-    pos 0 ∷ negsuc 1 ∷ pos 0 ∷ pos 0 ∷ pos 0 ∷ pos 0 ∷ pos 5 ∷ pos 0 ∷ pos 3 ∷ pos 0 ∷ pos 0 ∷ pos 0 ∷ negsuc 4 ∷ pos 5 ∷ pos 0 ∷ pos 0
-    ∷ pos 0 ∷ negsuc 2 ∷ pos 0 ∷ negsuc 4 ∷ pos 0 ∷ pos 0 ∷ pos 0 ∷ pos 0 ∷ pos 2 ∷ pos 0 ∷ []
+start = x 24 2 (x 13 5 (x 8 3 (x 6 5 (o 1 2 (o 12 5 (o 17 3 (o 19 5 blank)))))))
 
-mixed-16 : length (endsOf start 3 1) ≡ 16
+start-mixed : length (endsOf start 3 1) ≡ 16
 unfolding endsOf canStep clearFrom offFrom all stepped lifted landed
-mixed-16 = refl
+start-mixed = refl
 
-double-73 : length (endsOf start 3 3) ≡ 73
+start-double : length (endsOf start 3 3) ≡ 73
 unfolding endsOf canStep clearFrom offFrom all stepped lifted landed
-double-73 = refl
+start-double = refl
 
-x-heavy : List ℤ
-x-heavy =
+-- double 1 from here has the most ends that a search found: fifteen lone x, most of them two and two with a free point between, and one o,
+-- on its bar
+abbrev spread : List ℤ
+spread =
     negsuc 0 ∷ pos 0 ∷ pos 0 ∷ pos 1 ∷ pos 1 ∷ pos 0 ∷ pos 1 ∷ pos 1 ∷ pos 0 ∷ pos 1 ∷ pos 1 ∷ pos 0 ∷ pos 1 ∷ pos 1 ∷ pos 0 ∷ pos 1
     ∷ pos 1 ∷ pos 0 ∷ pos 1 ∷ pos 1 ∷ pos 0 ∷ pos 1 ∷ pos 1 ∷ pos 0 ∷ pos 1 ∷ pos 0 ∷ []
 
-heavy : length (endsOf x-heavy 1 1) ≡ 2226
-unfolding x-heavy endsOf canStep clearFrom offFrom all stepped lifted landed
-heavy = refl
+most-found : length (endsOf spread 1 1) ≡ 2226
+unfolding endsOf canStep clearFrom offFrom all stepped lifted landed
+most-found = refl

@@ -9,17 +9,14 @@ use Rattle.position.proofs.Phases.{phase-refused, phase-empty, win-norm
 use Rattle.position.proofs.phase.game_phase.Statement.{statement}
 use Rattle.position.proofs.phase.game_phase.Tie as tie
 
-refusal-requires : tie.Need-refusal-requires
-refusal-requires c κs = search needs
+check-requires : tie.Need-check-requires
+check-requires c κs = search needs
 
 returns : tie.Need-returns
 returns c =
-    let e = c .before .refusal .ensures .is in
+    let e = c .before .before .check .ensures .judged .is in
     let n = c .if1 .taken in
-    ap (λ (k : ℕ). refused k 0) e ∙ phase-refused checkers (c .before .before .args .t1) (omega arith)
-
-checkers-below-requires : tie.Need-checkers-below-requires
-checkers-below-requires c κs = search needs
+    ap (λ (k : ℕ). refused k 0) e ∙ phase-refused checkers (c .before .before .before .args .t1) (omega arith)
 
 returns-2 : tie.Need-returns-2
 returns-2 c = phase-empty checkers _ (omega arith) (omega arith) (omega arith)
@@ -27,8 +24,8 @@ returns-2 c = phase-empty checkers _ (omega arith) (omega arith) (omega arith)
 returns-3 : tie.Need-returns-3
 returns-3 c = win-normal checkers _ (omega arith) (omega arith) (omega arith) (omega arith)
 
-checkers-below-requires-2 : tie.Need-checkers-below-requires-2
-checkers-below-requires-2 c κs = search needs
+checkers-below-requires : tie.Need-checkers-below-requires
+checkers-below-requires c κs = search needs
 
 returns-4 : tie.Need-returns-4
 returns-4 c = win-bg checkers _ (omega arith) (omega arith) (omega arith) (omega arith) (omega arith)
@@ -39,8 +36,8 @@ returns-5 c = win-gammon checkers _ (omega arith) (omega arith) (omega arith) (o
 returns-6 : tie.Need-returns-6
 returns-6 c = lose-normal checkers _ (omega arith) (omega arith) (omega arith) (omega arith)
 
-checkers-below-requires-3 : tie.Need-checkers-below-requires-3
-checkers-below-requires-3 c κs = search needs
+checkers-below-requires-2 : tie.Need-checkers-below-requires-2
+checkers-below-requires-2 c κs = search needs
 
 returns-7 : tie.Need-returns-7
 returns-7 c = lose-bg checkers _ (omega arith) (omega arith) (omega arith) (omega arith) (omega arith)
@@ -64,16 +61,15 @@ pub game-phase-spec : {M : Type 1} → statement M
 game-phase-spec =
     tie.close
     (tie.spec
-    refusal-requires
+    check-requires
     returns
-    checkers-below-requires
     returns-2
     returns-3
-    checkers-below-requires-2
+    checkers-below-requires
     returns-4
     returns-5
     returns-6
-    checkers-below-requires-3
+    checkers-below-requires-2
     returns-7
     returns-8
     lowest-o-requires
