@@ -1,0 +1,92 @@
+/*
+ * A few calls of the C interface, as a firmware would make them.
+ */
+#include "munchalep.h"
+
+#include <stdio.h>
+
+static const int8_t start[26] = {
+    0,  -2, 0, 0, 0,  0, 5,  0, 3, 0, 0, 0, -5,
+    5,  0,  0, 0, -3, 0, -5, 0, 0, 0, 0, 2, 0,
+};
+
+/* Prints x's checkers from the bar down, then o's from its bar up, as point:count. */
+static void print_board(const int8_t board[26])
+{
+    int i;
+
+    printf(" x");
+    for (i = 25; i >= 0; i--)
+        if (board[i] > 0)
+            printf(" %d:%d", i, board[i]);
+    printf("; o");
+    for (i = 0; i <= 25; i++)
+        if (board[i] < 0)
+            printf(" %d:%d", i, -board[i]);
+    printf("\n");
+}
+
+/* Prints whether a call refused, and by which number. */
+static void print_refusal(const char *call, uint64_t answer)
+{
+    if (munchalep_refusal_of(answer) == MUNCHALEP_NOT_REFUSED)
+        printf("%s: not refused\n", call);
+    else
+        printf("%s: refused, %u\n", call, munchalep_refusal_of(answer));
+}
+
+/* Prints whether a call refused, and what stands in `out` after it. */
+static void print_answer(const char *call, uint64_t answer, const int8_t out[26])
+{
+    print_refusal(call, answer);
+    printf("    out:");
+    print_board(out);
+}
+
+static void check(void)
+{
+    int8_t sixteen[26] = {0};
+
+    sixteen[24] = 15;
+    sixteen[25] = 1;
+    print_refusal("start, check", munchalep_check(start));
+    print_refusal("x 25:1 24:15, check", munchalep_check(sixteen));
+}
+
+static void switch_sides(void)
+{
+    int8_t lone[26] = {0}, out[26] = {0};
+
+    lone[25] = 1;
+    lone[19] = -2;
+    print_answer("x 25:1; o 19:2, switch", munchalep_switch(lone, out), out);
+}
+
+static void steps(void)
+{
+    int8_t out[26] = {0};
+
+    print_answer("start, step from 8 by 3", munchalep_step(start, 8, 3, out), out);
+    /* Refused, so `out` still has the board of the step before. */
+    print_answer("start, step from 6 by 5", munchalep_step(start, 6, 5, out), out);
+    print_answer("start, step from 8 by 7", munchalep_step(start, 8, 7, out), out);
+}
+
+static void result(void)
+{
+    static const int8_t empty[26] = {0};
+    uint64_t answer = munchalep_result(start);
+
+    print_refusal("start, result", answer);
+    printf("    contact: %s\n", munchalep_value_of(answer) == MUNCHALEP_CONTACT ? "yes" : "no");
+    print_refusal("empty board, result", munchalep_result(empty));
+}
+
+int main(void)
+{
+    check();
+    switch_sides();
+    steps();
+    result();
+    return 0;
+}

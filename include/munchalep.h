@@ -1,0 +1,126 @@
+/*
+ * Munchalep: which positions a backgammon roll may lead to.
+ *
+ * A board is 26 signed bytes, seen from x, the side to move. A positive entry
+ * counts checkers of x, a negative one checkers of o. Entries 1 to 24 are the
+ * points, and x moves towards 1. Entry 25 is x's bar, entry 0 is o's bar. A
+ * side has 15 checkers; those not on the board are off.
+ *
+ * Nothing has to hold of a board or a number before a call: every function
+ * takes any bytes and any numbers, and answers or refuses. Pointers are not
+ * null, each points to as many entries as its parameter says, and what a
+ * function writes (`out`) does not overlap what it reads (`board`).
+ *
+ * Every function answers one uint64_t. Its low byte is the refusal number, 0
+ * where nothing is refused; the 56 bits above it are a value, which each
+ * function below describes. munchalep_refusal_of() and munchalep_value_of()
+ * take the two apart. A board that is answered goes to `out`; a refusal leaves
+ * `out` as it was. Where several refusals apply, the one named first is given.
+ *
+ * No function keeps anything between calls, so threads may call them at once.
+ */
+#ifndef MUNCHALEP_H
+#define MUNCHALEP_H
+
+#include <stddef.h>
+#include <stdint.h>
+
+#ifdef __cplusplus
+extern "C" {
+#endif
+
+/* Refusal numbers. "Ends" are the boards a roll may lead to. */
+enum munchalep_refusal {
+    MUNCHALEP_NOT_REFUSED = 0,
+
+    /* Boards. */
+    MUNCHALEP_X_OVER_15 = 1,          /* x has more than 15 checkers, its bar counted */
+    MUNCHALEP_O_OVER_15 = 2,          /* o has more than 15 checkers, its bar counted */
+    MUNCHALEP_X_BAR_NEGATIVE = 3,     /* entry 25, x's bar, is negative */
+    MUNCHALEP_O_BAR_POSITIVE = 4,     /* entry 0, o's bar, is positive */
+    MUNCHALEP_FINISHED = 5,           /* a side has all 15 off: no play, no card from here */
+    MUNCHALEP_EMPTY_BOARD = 6,        /* no checker at all: no result, play or card either */
+
+    /* Steps, plays and recovery. */
+    MUNCHALEP_DIE_OUTSIDE_1_TO_6 = 7, /* a die outside 1 to 6 */
+    MUNCHALEP_FROM_ABOVE_25 = 8,      /* a step from a point above 25 */
+    MUNCHALEP_STEP_NOT_LEGAL = 9,     /* the step is not legal */
+    MUNCHALEP_LIST_TOO_SHORT = 10,    /* under 26 bytes an end; the value is the number of ends */
+    MUNCHALEP_NO_SUCH_END = 11,       /* the end number is not below the number of ends */
+    MUNCHALEP_NOT_AN_END = 12,        /* the second board is not a legal end */
+    MUNCHALEP_ROW_TOO_SHORT = 27,     /* fewer step places than the steps found */
+
+    /* Inputs of the neural net. */
+    MUNCHALEP_INPUTS_NOT_EXACT = 13,  /* not exactly 202 (contact) or 186 (race) values */
+    MUNCHALEP_NO_SUCH_INPUT = 14,     /* the place is not below 202 (contact) or 186 (race) */
+
+    /* Position ID keys. */
+    MUNCHALEP_KEY_O_OVER_15 = 15,     /* the key gives o a sixteenth checker */
+    MUNCHALEP_KEY_X_OVER_15 = 16,     /* the key gives x a sixteenth checker */
+    MUNCHALEP_KEY_SHARED_POINT = 17,  /* the key has both sides on one point */
+    MUNCHALEP_KEY_BIT_AFTER_END = 18, /* the key has a bit set after its last end bit */
+
+    /* Game cards; in reading, the value is the byte offset of the refused record. */
+    MUNCHALEP_CARD_TOO_SHORT = 19,    /* no room for the new record or the card's stated length */
+    MUNCHALEP_START_TOO_SHORT = 20,   /* the start record has under 12 bytes */
+    MUNCHALEP_START_MARK = 21,        /* the start record's mark is wrong */
+    MUNCHALEP_TURN_LIMIT = 22,        /* a turn beyond the 1,000th */
+    MUNCHALEP_TURN_TOO_SHORT = 23,    /* the turn record has under 5 bytes */
+    MUNCHALEP_TURN_MARK = 24,         /* the turn record's mark is wrong */
+    MUNCHALEP_TURN_AFTER_FINISH = 25, /* a turn after a finish */
+    MUNCHALEP_NO_SUCH_ROLL = 26,      /* the dice byte is not one of the 21 */
+    MUNCHALEP_NO_SUCH_POSITION = 36   /* the position number is above the number of turns */
+};
+
+/* What munchalep_result() says of a board, from x's side. */
+enum munchalep_outcome {
+    MUNCHALEP_CONTACT = 0,     /* unfinished, and the sides can still meet */
+    MUNCHALEP_RACE = 1,        /* unfinished, and they are past each other */
+    MUNCHALEP_WIN_NORMAL = 2,  /* x has all off, and o at least one */
+    MUNCHALEP_WIN_GAMMON = 3,  /* x has all off, and o none */
+    MUNCHALEP_WIN_BG = 4,      /* the same, and o is on its bar or on 1 to 6 */
+    MUNCHALEP_LOSE_NORMAL = 5, /* o has all off, and x at least one */
+    MUNCHALEP_LOSE_GAMMON = 6, /* o has all off, and x none */
+    MUNCHALEP_LOSE_BG = 7      /* the same, and x is on its bar or on 19 to 24 */
+};
+
+/* The refusal number of an answer, 0 where nothing is refused. */
+static inline unsigned munchalep_refusal_of(uint64_t answer)
+{
+    return (unsigned)(answer & 0xFFu);
+}
+
+/* The value of an answer: what stands above the refusal number. */
+static inline uint64_t munchalep_value_of(uint64_t answer)
+{
+    return answer >> 8;
+}
+
+/* Whether the board is accepted. Refuses 1, 2, 3, 4. The value is 0. */
+uint64_t munchalep_check(const int8_t board[26]);
+
+/*
+ * The board seen from the other side, to `out`: entry 25 - i of it is minus
+ * entry i of the board. Refuses 1, 2, 3, 4. The value is 0.
+ */
+uint64_t munchalep_switch(const int8_t board[26], int8_t out[26]);
+
+/*
+ * The board after x moves one checker from `from` by `die`, to `out`, still
+ * seen from x. It is one step of a play: whether the rest of the roll can be
+ * played is not looked at, and finished boards are taken. Refuses 1, 2, 3, 4,
+ * 7, 8, 9. The value is 0.
+ */
+uint64_t munchalep_step(const int8_t board[26], size_t from, size_t die, int8_t out[26]);
+
+/*
+ * The result, or where the game goes on its phase: the value is one of enum
+ * munchalep_outcome. Refuses 1, 2, 3, 4, 6.
+ */
+uint64_t munchalep_result(const int8_t board[26]);
+
+#ifdef __cplusplus
+}
+#endif
+
+#endif

@@ -1,0 +1,90 @@
+//! wildbg's answers, inside the domain where it decides. An answer is `None` outside that domain,
+//! where wildbg is not called: it would panic, or answer for something that is not a board.
+
+use engine::position::{GamePhase, GameResult, OngoingPhase, Position};
+use munchalep::Board;
+
+/// What wildbg makes of a board.
+pub enum Judge {
+    /// A sum of checkers leaves i8.
+    OutsideDomain,
+    Refuses(u8),
+    Accepts(Position),
+}
+
+impl Judge {
+    pub fn of(board: &Board) -> Judge {
+        if !sums_fit(board) {
+            return Judge::OutsideDomain;
+        }
+        match Position::try_from(*board) {
+            Ok(position) => Judge::Accepts(position),
+            Err(message) => Judge::Refuses(refusal_number(message)),
+        }
+    }
+
+    pub fn check(&self) -> Option<Result<(), u8>> {
+        self.answer(|_| Some(Ok(())))
+    }
+
+    pub fn switch(&self) -> Option<Result<Board, u8>> {
+        self.answer(|position| Some(Ok(position.sides_switched().into())))
+    }
+
+    pub fn step(&self, from: usize, die: usize) -> Option<Result<Board, u8>> {
+        self.answer(|position| {
+            if from > 25 || !(1..=6).contains(&die) {
+                return None;
+            }
+            let after = position.try_move_single_checker(from, die);
+            Some(after.map(Board::from).ok_or(9))
+        })
+    }
+
+    pub fn result(&self) -> Option<Result<u8, u8>> {
+        self.answer(|position| {
+            if Board::from(*position) == [0; 26] {
+                return None;
+            }
+            Some(Ok(phase_number(position.game_phase())))
+        })
+    }
+
+    /// The refusal of a board that wildbg refuses, else what is said of its position.
+    fn answer<T>(
+        &self,
+        of_position: impl Fn(&Position) -> Option<Result<T, u8>>,
+    ) -> Option<Result<T, u8>> {
+        match self {
+            Judge::OutsideDomain => None,
+            Judge::Refuses(number) => Some(Err(*number)),
+            Judge::Accepts(position) => of_position(position),
+        }
+    }
+}
+
+/// Whether both sums that `try_from` takes stay inside i8.
+fn sums_fit(board: &Board) -> bool {
+    let x: i32 = board.iter().map(|&entry| i32::from(entry).max(0)).sum();
+    let o: i32 = board.iter().map(|&entry| i32::from(entry).min(0)).sum();
+    i8::try_from(x).is_ok() && i8::try_from(o).is_ok()
+}
+
+fn refusal_number(message: &str) -> u8 {
+    let openings = ["Player x", "Player o", "Index 25", "Index 0"];
+    let place = openings.iter().position(|text| message.starts_with(text));
+    1 + place.unwrap_or_else(|| panic!("wildbg's refusal has no number: {message}")) as u8
+}
+
+fn phase_number(phase: GamePhase) -> u8 {
+    match phase {
+        GamePhase::Ongoing(OngoingPhase::Contact) => 0,
+        GamePhase::Ongoing(OngoingPhase::Race) => 1,
+        GamePhase::GameOver(GameResult::WinNormal) => 2,
+        GamePhase::GameOver(GameResult::WinGammon) => 3,
+        GamePhase::GameOver(GameResult::WinBg) => 4,
+        GamePhase::GameOver(GameResult::LoseNormal) => 5,
+        GamePhase::GameOver(GameResult::LoseGammon) => 6,
+        GamePhase::GameOver(GameResult::LoseBg) => 7,
+    }
+}

@@ -1,0 +1,48 @@
+//! The command's options.
+
+use crate::store::{Maker, STORES};
+use std::num::NonZero;
+use std::path::PathBuf;
+use std::str::FromStr;
+use std::thread;
+
+pub struct Options {
+    pub seed: u64,
+    /// How long random boards are compared.
+    pub seconds: u64,
+    pub threads: usize,
+    /// What is to be stored, and where.
+    pub stores: Vec<(Maker, PathBuf)>,
+}
+
+impl Options {
+    /// Reads the words of a command, or says what is wrong with them.
+    pub fn read(mut words: impl Iterator<Item = String>) -> Result<Options, String> {
+        let mut options = Options {
+            seed: 1,
+            seconds: 100,
+            threads: thread::available_parallelism().map_or(1, NonZero::get),
+            stores: Vec::new(),
+        };
+        while let Some(name) = words.next() {
+            let value = words.next().ok_or(format!("{name} has no value"))?;
+            match name.as_str() {
+                "--seed" => options.seed = number(&name, &value)?,
+                "--seconds" => options.seconds = number(&name, &value)?,
+                "--threads" => options.threads = number::<NonZero<usize>>(&name, &value)?.get(),
+                _ => options.stores.push((maker(&name)?, value.into())),
+            }
+        }
+        Ok(options)
+    }
+}
+
+fn number<N: FromStr>(name: &str, value: &str) -> Result<N, String> {
+    let wrong = |_| format!("{name} does not take {value}");
+    value.parse().map_err(wrong)
+}
+
+fn maker(name: &str) -> Result<Maker, String> {
+    let store = STORES.iter().find(|(option, _)| *option == name);
+    store.map(|&(_, maker)| maker).ok_or(format!("{name} is no option"))
+}

@@ -1,0 +1,25 @@
+//! Answers stored as data.
+
+use crate::difference::Difference;
+use crate::options::Options;
+use crate::{dice, position};
+use std::fs;
+
+/// Makes the data of a seed.
+pub type Maker = fn(u64) -> Result<Vec<u8>, Difference>;
+
+/// The options that store data, each with its maker.
+pub const STORES: [(&str, Maker); 2] =
+    [("--store", position::stored::records), ("--store-dice", |_| dice::stored())];
+
+/// Writes the files that are asked for. Answers what it wrote, or what failed.
+pub fn run(options: &Options) -> Result<String, String> {
+    let mut wrote = Vec::new();
+    for (make, file) in &options.stores {
+        let data = make(options.seed).map_err(|difference| difference.to_string())?;
+        let name = file.display();
+        fs::write(file, &data).map_err(|error| format!("{name}: {error}"))?;
+        wrote.push(format!("{name}: {} bytes, seed {}", data.len(), options.seed));
+    }
+    Ok(wrote.join("\n"))
+}

@@ -1,0 +1,19 @@
+#[path = "../sources.rs"]
+mod sources;
+
+fn main() {
+    sources::take_over(
+        "engine",
+        &["dice", "inputs", "position"],
+        &[
+            "dice.rs",
+            "inputs.rs",
+            "position.rs",
+            "position/conversion.rs",
+            "position/double_moves.rs",
+            "position/mixed_moves.rs",
+        ],
+    );
+    // inputs.rs declares this module and uses nothing of it; it is outside the port.
+    sources::write("inputs/expert.rs", b"");
+}

@@ -1,0 +1,3 @@
+//! wildbg's crate `logic`, as far as it is ported. The build script brings its files.
+
+include!(concat!(env!("OUT_DIR"), "/lib.rs"));

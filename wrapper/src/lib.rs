@@ -1,0 +1,25 @@
+//! Which positions a backgammon roll may lead to: safe functions over Munchalep's C interface.
+//!
+//! A [`Board`] is 26 signed bytes, seen from x, the side to move. A positive entry counts checkers
+//! of x, a negative one checkers of o. Entries 1 to 24 are the points, and x moves towards 1. Entry
+//! 25 is x's bar, entry 0 is o's bar. A side has 15 checkers; those not on the board are off.
+//!
+//! Nothing has to hold of a board or a number before a call: the library is proved for every
+//! input, and answers or refuses. A [`Refusal`] says why.
+//!
+//! ```
+//! let mut board = [0; 26];
+//! board[8] = 3;
+//! let after = munchalep::step(&board, 8, 3)?;
+//! assert_eq!((after[8], after[5]), (2, 1));
+//! # Ok::<(), munchalep::Refusal>(())
+//! ```
+
+#![no_std]
+
+mod position;
+pub mod raw;
+mod refusal;
+
+pub use position::{Board, Outcome, check, result, step, switch};
+pub use refusal::Refusal;
