@@ -3,14 +3,14 @@ use mathlib.Core.Path.{_≡_, refl, sym, ap, _∙_}
 use mathlib.Core.Bool.{Bool, true, false, cond, _&&_}
 use mathlib.Core.List.{List, [], _∷_, _++_, map, flatten, append-assoc, append-cancel-left, append-nil}
 use mathlib.Core.Logic.{_⊎_, inl, inr}
-use Prim.Native.Nat.{ℕ, suc, _+_, _-_, _*_, _/_, _<_, _≤_}
+use Prim.Native.Nat.{ℕ, zero, suc, _+_, _-_, _*_, _/_, _<_, _≤_}
 use native.Mathlib.Nat.{add-mul, div-eq-of-lt, div-mul-le-self, div-self, eq-or-lt-of-le, le-div-iff-mul-le, mul-le-mul-right, suc-mul, zero-mul}
 use native.Mathlib.Numerals.{add-one}
 use native.Mathlib.Omega.{arith}
 use borrow.Author.Tests.{le-leb, lt-leb, lt-ltb, le-ltb}
 use lib.Dec.{leb, ltb}
 use lib.ListN.{length, getD, set, take, drop, length-append, take-append-drop}
-use lib.Seq.{sets, sets-eq, length-sets, getD-set-other, take-at, take-set-le, take-add, take-all, drop-append-add, drop-drop, length-take-le}
+use lib.Seq.{drop-cons, sets, sets-eq, length-sets, getD-set-other, set-set, set-comm, take-at, take-set-le, take-add, take-all, drop-append-add, drop-drop, length-take-le}
 use Rattle.ints.specs.Lent.{Records, store, written}
 use Rattle.ints.proofs.Tests.{lt-or-le}
 
@@ -35,6 +35,14 @@ length-flatten w (e ∷ es) r = length-append e (flatten es) ∙ omega (arith, l
 pub sets-step : (o : List ℕ) (at x : ℕ) (xs : List ℕ) → sets (set o at x) (at + 1) xs ≡ sets o at (x ∷ xs)
 sets-step o at x xs = rw add-one
 
+-- the same where byte i of xs is stored
+pub sets-next : (o : List ℕ) (at i : ℕ) (xs : List ℕ) → i < length xs
+    → sets (set o (at + i) (getD xs i 0)) (at + (i + 1)) (drop (i + 1) xs) ≡ sets o (at + i) (drop i xs)
+sets-next o at i xs h =
+    let q : at + (i + 1) ≡ at + i + 1 = omega arith in
+    let d : drop i xs ≡ getD xs i 0 ∷ drop (i + 1) xs = rw add-one (drop-cons xs i 0 h) in
+    rw q (sets-step o (at + i) (getD xs i 0) (drop (i + 1) xs) ∙ ap (sets o (at + i)) (sym d))
+
 pub getD-sets-below : (o : List ℕ) (at : ℕ) (xs : List ℕ) (i d : ℕ) → i < at → getD (sets o at xs) i d ≡ getD o i d
 getD-sets-below o at [] i d h = refl
 getD-sets-below o at (x ∷ xs) i d h =
@@ -44,6 +52,22 @@ pub getD-sets-past : (o : List ℕ) (at : ℕ) (xs : List ℕ) (i d : ℕ) → a
 getD-sets-past o at [] i d h = refl
 getD-sets-past o at (x ∷ xs) i d h =
     getD-sets-past (set o at x) (suc at) xs i d (omega arith) ∙ getD-set-other o at i x d (λ e. omega arith)
+
+-- a byte stored before a run of others, and one of the run stored anew
+set-before-sets : (o : List ℕ) (at : ℕ) (xs : List ℕ) (i v : ℕ) → i < at → set (sets o at xs) i v ≡ sets (set o i v) at xs
+set-before-sets o at [] i v h = refl
+set-before-sets o at (x ∷ xs) i v h =
+    set-before-sets (set o at x) (suc at) xs i v (omega arith)
+    ∙ ap (λ (l : List ℕ). sets l (suc at) xs) (set-comm o at i x v (λ e. omega arith))
+
+pub set-sets : (o : List ℕ) (at : ℕ) (xs : List ℕ) (k v : ℕ) → k < length xs → set (sets o at xs) (at + k) v ≡ sets o at (set xs k v)
+set-sets o at [] k v h = absurd (omega arith)
+set-sets o at (x ∷ xs) zero v h =
+    let z : at + 0 ≡ at = omega arith in
+    rw z (set-before-sets (set o at x) (suc at) xs at v (omega arith) ∙ ap (λ (l : List ℕ). sets l (suc at) xs) (set-set o at x v))
+set-sets o at (x ∷ xs) (suc k) v h =
+    let q : at + suc k ≡ suc at + k = omega arith in
+    rw q (set-sets (set o at x) (suc at) xs k v (omega arith))
 
 -- ---- one record
 

@@ -65,15 +65,19 @@ those-append (suc n) m k f =
     let s : suc k + n ≡ k + suc n = omega arith in
     rw e (ap (keep (f k) k) (those-append n m (suc k) f ∙ rw s) ∙ keep-append (f k) k (those n (suc k) f) (those m (k + suc n) f))
 
+-- one point more at the end
+pub those-last : (n : ℕ) (f : ℕ → Bool) → those (suc n) 0 f ≡ those n 0 f ++ keep (f n) n []
+unfolding those
+those-last n f =
+    let e : n + 1 ≡ suc n = omega arith in
+    let z : 0 + n ≡ n = omega arith in
+    ap (λ (x : ℕ). those x 0 f) (sym e) ∙ those-append n 1 0 f ∙ rw z
+
 -- high to low is low to high turned around
 pub down-reverse : (n : ℕ) (f : ℕ → Bool) → thoseDown n f ≡ reverse (those n 0 f)
 unfolding thoseDown those
 down-reverse zero f = refl
-down-reverse (suc n) f =
-    let e : n + 1 ≡ suc n = omega arith in
-    let z : 0 + n ≡ n = omega arith in
-    let s : those (suc n) 0 f ≡ those n 0 f ++ keep (f n) n [] = ap (λ (x : ℕ). those x 0 f) (sym e) ∙ those-append n 1 0 f ∙ rw z in
-    ap (keep (f n) n) (down-reverse n f) ∙ go (f n) ∙ sym (ap reverse s)
+down-reverse (suc n) f = ap (keep (f n) n) (down-reverse n f) ∙ go (f n) ∙ sym (ap reverse (those-last n f))
   where
     go : (t : Bool) → keep t n (reverse (those n 0 f)) ≡ reverse (those n 0 f ++ keep t n [])
     go true = sym (reverse-append (those n 0 f) (n ∷ []))
@@ -252,7 +256,7 @@ zero-none (suc n) m h = go (zero-none n m) (lt-or-le m (2 ^ n))
     go ih (inr l) =
         rw (bit-top m n l h) (ne-eqb m 0 (λ z. omega (arith, pow-pos n)) ∙ sym (and-false (all (λ i. not (bit m i)) n)))
 
-all-ext : (n : ℕ) (f g : ℕ → Bool) → ((i : ℕ) → f i ≡ g i) → all f n ≡ all g n
+pub all-ext : (n : ℕ) (f g : ℕ → Bool) → ((i : ℕ) → f i ≡ g i) → all f n ≡ all g n
 unfolding all
 all-ext zero f g h = refl
 all-ext (suc n) f g h = rw (h n, all-ext n f g h)

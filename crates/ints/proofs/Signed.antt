@@ -11,7 +11,7 @@ use mathlib.Core.Bool.{Bool, true, false, cond}
 use mathlib.Core.List.{List, [], _∷_}
 use Prim.Native.Nat.{ℕ, zero, suc, _+_, _-_, _^_, _≤_, _<_}
 use native.Mathlib.Omega.{arith}
-use lib.IntN.{ℤ, pos, negsuc, negℤ, sucℤ, predℤ, natAbs, subℕ, _+ℤ_, _-ℤ_, +ℤ-idl, +ℤ-one, -ℤ-one}
+use lib.IntN.{ℤ, pos, negsuc, negℤ, sucℤ, predℤ, natAbs, subℕ, _+ℤ_, _-ℤ_, +ℤ-idl, +ℤ-comm, +ℤ-one, -ℤ-one, negℤ-sucℤ, negℤ-predℤ}
 use lib.ListN.{set}
 use lib.Signed.{mag, ltZ, leZ, nonNeg}
 use lib.Dec.{T, ltb, leb}
@@ -197,6 +197,32 @@ module _ (w : Width) (z : ℤ) (h : suc (mag z) < 2 ^ hbits w) where
 
   pub suc-held : held w (held w z +ℤ pos 1) ≡ sucℤ z
   suc-held = rw after (held-is w (sucℤ z) (omega (arith, mag-suc z)))
+
+-- 1 - z and -1 - z, which are z - 1 and z + 1 with the other sign
+module _ (w : Width) (z : ℤ) (h : suc (suc (mag z)) < 2 ^ hbits w) where
+  one-less : pos 1 -ℤ held w z ≡ negℤ (predℤ z)
+  one-less = rw (held-is w z (omega arith)) (+ℤ-comm (pos 1) (negℤ z) ∙ +ℤ-one (negℤ z) ∙ sym (negℤ-predℤ z))
+
+  turned-pred : mag (negℤ (predℤ z)) < 2 ^ hbits w
+  turned-pred = omega (arith, mag-neg (predℤ z), mag-pred z)
+
+  pub turned-pred-fits : SFits w (pos 1 -ℤ held w z)
+  turned-pred-fits = rw one-less record { sfits = turned-pred }
+
+  pub turned-pred-held : held w (pos 1 -ℤ held w z) ≡ negℤ (predℤ z)
+  turned-pred-held = rw one-less (held-is w (negℤ (predℤ z)) turned-pred)
+
+  minus-one-less : negsuc 0 -ℤ held w z ≡ negℤ (sucℤ z)
+  minus-one-less = rw (held-is w z (omega arith)) (+ℤ-comm (negsuc 0) (negℤ z) ∙ -ℤ-one (negℤ z) ∙ sym (negℤ-sucℤ z))
+
+  turned-suc : mag (negℤ (sucℤ z)) < 2 ^ hbits w
+  turned-suc = omega (arith, mag-neg (sucℤ z), mag-suc z)
+
+  pub turned-suc-fits : SFits w (negsuc 0 -ℤ held w z)
+  turned-suc-fits = rw minus-one-less record { sfits = turned-suc }
+
+  pub turned-suc-held : held w (negsuc 0 -ℤ held w z) ≡ negℤ (sucℤ z)
+  turned-suc-held = rw minus-one-less (held-is w (negℤ (sucℤ z)) turned-suc)
 
 -- the tests that code makes of a number z that fits, as facts on its parts
 module _ (w : Width) (z : ℤ) (g : mag z < 2 ^ hbits w) where

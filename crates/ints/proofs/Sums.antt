@@ -4,12 +4,13 @@ use mathlib.Core.Path.{_≡_, refl, sym, ap, _∙_, subst}
 use mathlib.Core.Logic.{_⊎_, ⊎-elim}
 use mathlib.Core.List.{List}
 use Prim.Native.Nat.{ℕ, zero, suc, _+_, _-_, _≤_, _<_}
+use native.Mathlib.Decide.{ℕ-discrete}
 use native.Mathlib.Omega.{arith}
 use native.Mathlib.Nat.{zero-add}
 use native.Mathlib.Numerals.{add-one}
 use borrow.Author.Tests.{eq-eqb, ne-eqb}
-use lib.ListN.{length, getD}
-use lib.Seq.{ext-getD}
+use lib.ListN.{length, getD, set, length-set}
+use lib.Seq.{ext-getD, getD-set-same, getD-set-other}
 use Rattle.ints.specs.Sums.{sumTo, values, one}
 use Rattle.ints.proofs.Tests.{last}
 
@@ -64,6 +65,26 @@ pub table-is : {A : Type 0} (f : ℕ → A) (n : ℕ) (l : List A) (d : A) → l
 table-is f n l d e h =
     ext-getD d l (values f 0 n) (e ∙ sym (length-values f 0 n))
     (λ k m. h k (omega arith) ∙ sym (table-at f n k d (omega arith)))
+
+-- a table that a loop fills from its last place down: the i last of n places hold f's values
+pub record Filled {A : Type 0} (f : ℕ → A) (d : A) (n : ℕ) (l : List A) (i : ℕ) : Type 0 where
+  pub most : i ≤ n
+  pub size : length l ≡ n
+  pub at : (k : ℕ) → k < n → n ≤ k + i → getD l k d ≡ f k
+
+-- the loop's turn stores the value of the place before those
+pub filled-more : {A : Type 0} {f : ℕ → A} {d : A} {n : ℕ} {l : List A} {i : ℕ} (j : ℕ) (x : A) → j + i + 1 ≡ n → x ≡ f j
+    → Filled f d n l i → Filled f d n (set l j x) (i + 1)
+filled-more {A} {f} {d} {n} {l} {i} j x h e v =
+    let s = v .size in
+    record {
+      most = omega arith;
+      size = length-set l j x ∙ s;
+      at = λ k m r. elim (ℕ-discrete k j) [
+        | yes q ↦ rw q (getD-set-same l j x d (omega arith) ∙ e)
+        | no m' ↦ getD-set-other l j k x d m' ∙ v .at k m (omega (arith, m'))
+      ];
+    }
 
 -- the first part, in front
 pub sum-front : (f : ℕ → ℕ) (n : ℕ) → sumTo f (suc n) ≡ f 0 + sumTo (λ k. f (suc k)) n

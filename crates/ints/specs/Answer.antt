@@ -10,3 +10,8 @@ pub data Answer : Type 0 where
 abbrev pub packed : Answer → ℕ
 packed (value n) = 256 * n
 packed (refused k n) = k + 256 * n
+
+-- the value, or what the refusal carries
+abbrev pub carried : Answer → ℕ
+carried (value n) = n
+carried (refused k n) = n

@@ -3,19 +3,29 @@ use mathlib.Core.Path.{_≡_}
 use mathlib.Core.List.{List}
 use Prim.Native.Nat.{ℕ}
 use lib.IntN.{ℤ}
+use lib.ListN.{length}
 use Rattle.ints.specs.Answer.{packed}
 use Rattle.ints.proofs.Tests.{one-answer}
 use Rattle.position.specs.Board.{checkers, refusalOf}
 use Rattle.position.specs.Phase.{phaseAnswer}
 use Rattle.position.specs.declared.BoardAnswer.{BoardAnswer}
+use Rattle.moves.specs.Answers.{listAnswer, listedIn, countAnswer}
 use Rattle.munchalep.specs.Lent.{Put}
 
 pub check-unique : (b : List ℤ) (r s : ℕ) → r ≡ refusalOf checkers b → s ≡ refusalOf checkers b → r ≡ s
 check-unique b r s p q = one-answer p q
 
--- of every entry that answers a board: `munchalep_switch` and `munchalep_step`
+-- of every entry that answers a board: `munchalep_switch`, `munchalep_step` and `munchalep_end`
 pub put-unique : (a : BoardAnswer) (out : List ℤ) (r s : ℕ) (l m : List ℤ) → Put a out r l → Put a out s m → (r ≡ s) × (l ≡ m)
 put-unique a out r s l m p q = (one-answer (p .number) (q .number), one-answer (p .lent) (q .lent))
 
 pub result-unique : (b : List ℤ) (r s : ℕ) → r ≡ packed (phaseAnswer checkers b) → s ≡ packed (phaseAnswer checkers b) → r ≡ s
 result-unique b r s p q = one-answer p q
+
+pub list-unique : (b : List ℤ) (d1 d2 : ℕ) (list : List ℕ) (r s : ℕ) (l m : List ℕ)
+    → r ≡ packed (listAnswer checkers b d1 d2 (length list)) → l ≡ listedIn checkers b d1 d2 list
+    → s ≡ packed (listAnswer checkers b d1 d2 (length list)) → m ≡ listedIn checkers b d1 d2 list → (r ≡ s) × (l ≡ m)
+list-unique b d1 d2 list r s l m p u q v = (one-answer p q, one-answer u v)
+
+pub count-unique : (b : List ℤ) (d1 d2 r s : ℕ) → r ≡ packed (countAnswer checkers b d1 d2) → s ≡ packed (countAnswer checkers b d1 d2) → r ≡ s
+count-unique b d1 d2 r s p q = one-answer p q

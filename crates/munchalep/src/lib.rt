@@ -1,13 +1,18 @@
 // The C interface: thin functions over the proved crates, declared for C in include/munchalep.h.
 // Every function answers one number: the refusal's in the low byte, 0 for none, and 256 times the value above it. A board that is
 // answered goes to an out parameter, which a refusal leaves as it was.
+use moves::Counted;
+use moves::Listed;
 use position::BoardAnswer;
 use position::phase::GamePhase;
 ghost use mathlib.Core.Path.{_≡_};
-ghost use Rattle.ints.specs.Answer.{packed};
+ghost use Prim.Native.Nat.{_≤_};
+ghost use lib.ListN.{length};
+ghost use Rattle.ints.specs.Answer.{packed, carried};
 ghost use Rattle.position.specs.Board.{checkers, refusalOf};
 ghost use Rattle.position.specs.Phase.{phaseAnswer};
 ghost use Rattle.position.specs.Answers.{switchAnswer, stepAnswer, phaseTold};
+ghost use Rattle.moves.specs.Answers.{listTold, listAnswer, listedIn, countTold, countAnswer, endAnswer};
 ghost use Rattle.munchalep.specs.Lent.{Put};
 
 // The refusal of a board, 1 to 4, or 0.
@@ -45,6 +50,59 @@ pub extern "C" fn munchalep_result(board: &[i8; 26]) -> u64
     ensures { λ r. ⌜ r ≡ packed (phaseAnswer checkers (now (board .entry))) ⌝ }
 {
     number(position::phase::game_phase(*board))
+}
+
+// Lists the ends of a roll, 26 bytes an end, and answers their number; a list that is too short for them stays as it was.
+#[no_mangle]
+pub extern "C" fn munchalep_list(board: &[i8; 26], die1: usize, die2: usize, list: &mut [u8]) -> u64
+    ensures { λ r. ⌜ (r ≡ packed (listAnswer checkers (now (board .entry)) die1 die2 (length (now (list .entry))))) × (now (list .exit) ≡ listedIn checkers (now (board .entry)) die1 die2 (now (list .entry))) ⌝ }
+{
+    listed_number(moves::list(*board, die1, die2, list))
+}
+
+// The number of ends of a roll.
+#[no_mangle]
+pub extern "C" fn munchalep_count(board: &[i8; 26], die1: usize, die2: usize) -> u64
+    ensures { λ r. ⌜ r ≡ packed (countAnswer checkers (now (board .entry)) die1 die2) ⌝ }
+{
+    counted_number(moves::count(*board, die1, die2))
+}
+
+// The end of a roll with a number, counted from 0, sides switched.
+#[no_mangle]
+pub extern "C" fn munchalep_end(
+    board: &[i8; 26],
+    die1: usize,
+    die2: usize,
+    number: usize,
+    out: &mut [i8; 26],
+) -> u64
+    ensures { λ r. ⌜ Put (endAnswer checkers (now (board .entry)) die1 die2 number) (now (out .entry)) r (now (out .exit)) ⌝ }
+{
+    put(moves::end(*board, die1, die2, number), out)
+}
+
+// The number of each case of a listing.
+fn listed_number(answer: Listed) -> u64
+    requires { ⌜ carried (listTold answer) ≤ 17550 ⌝ }
+    ensures { λ r. ⌜ r ≡ packed (listTold answer) ⌝ }
+{
+    match answer {
+        Listed::Count(n) => 256 * (n as u64),
+        Listed::Short(n) => 10 + 256 * (n as u64),
+        Listed::Refused(number) => number as u64,
+    }
+}
+
+// The number of each case of a count.
+fn counted_number(answer: Counted) -> u64
+    requires { ⌜ carried (countTold answer) ≤ 17550 ⌝ }
+    ensures { λ r. ⌜ r ≡ packed (countTold answer) ⌝ }
+{
+    match answer {
+        Counted::Count(n) => 256 * (n as u64),
+        Counted::Refused(number) => number as u64,
+    }
 }
 
 // The answer's number; its board, if it has one, goes to `out`.

@@ -55,6 +55,13 @@ offFrom-above p d h k = go (ℕ-discrete p d)
     go (yes e) = omega (arith, offFrom-exact p d e)
     go (no n) = omega (arith, offFrom-over p d (omega arith))
 
+-- those points begin with 7 at the latest
+pub offFrom-most : (p d : ℕ) → p ≤ d → d ≤ 6 → offFrom p d ≤ 7
+offFrom-most p d h k = elim (ℕ-discrete p d) [
+  | yes e ↦ omega (arith, offFrom-exact p d e)
+  | no n ↦ omega (arith, offFrom-over p d (omega arith))
+]
+
 -- ---- the test and the record of facts agree
 
 module _ (b : List ℤ) (p d : ℕ) where

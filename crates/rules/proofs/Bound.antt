@@ -107,6 +107,14 @@ four : choices 4 24 ≡ 17550
 unfolding choices sumTo
 four = refl
 
+choices-at-most : (k j : ℕ) → choices j 24 ≤ choices (k + j) 24
+choices-at-most zero j = let e : 0 + j ≡ j = omega arith in rw e (omega arith)
+choices-at-most (suc k) j = let e : suc k + j ≡ suc (k + j) = omega arith in rw e (omega (arith, choices-at-most k j, choices-more (k + j) 23))
+
+-- at most four steps
+pub doubles-at-most : (d k : ℕ) (b : List ℤ) → k ≤ 4 → length (doubles d k 25 b) ≤ 17550
+doubles-at-most d k b h = let e : 4 - k + k ≡ 4 = omega arith in omega (arith, length-turn d k b, rw e at (choices-at-most (4 - k) k), four)
+
 -- ---- a mixed roll
 
 length-ones : (w : Way) (n d : ℕ) (b : List ℤ) → length (ones w n d b) ≤ n
@@ -121,7 +129,7 @@ length-ones w n d b =
 length-pairs : (w : Way) (n d c : ℕ) (b : List ℤ) (p : ℕ) → length (pairs w n d c b p) ≤ n
 length-pairs w n d c b p = length-after b d (ones w n c) p n (λ t. length-ones w n c (stepped b p d))
 
-length-both : (b : List ℤ) (s l : ℕ) → length (both b s l) ≤ 576
+pub length-both : (b : List ℤ) (s l : ℕ) → length (both b s l) ≤ 576
 unfolding both fromTop fromLow enter sumTo
 length-both b s l =
     by-cond (ltb 0 (xs b 25)) (join (enter b l s) (enter b s l)) (join (fromTop b s l) (fromLow b l s)) (λ m. length m ≤ 576)

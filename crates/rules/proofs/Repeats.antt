@@ -4,6 +4,7 @@
 --     repeat-bar     one on the bar: exactly where the checker that entered goes on and o holds neither point that it could enter on
 --     repeat-full    two or more on the bar: always
 --     both-free, both-bar, both-full    so the list of both dice is the first half, then the second with these left out
+--     bar-alone      x on the bar: it is the one origin
 --     enter-full     two or more on the bar: that is one end at most
 -- Assumes nothing.
 use mathlib.Core.Path.{_≡_, refl, sym, ap, subst, _∙_}
@@ -531,17 +532,22 @@ module _ (b : List ℤ) (s l : ℕ) (g : Good b) (ds : Die s) (dl : Die l) (lt :
       ∙ ap (λ r. enter b l s ++ r) (unseen-none (enter b l s) (enter b s l) (repeat-full h))
       ∙ append-nil (enter b l s)
 
+-- with x on the bar it is the one origin
+pub bar-alone : (a : List ℤ) (c : ℕ) → 0 < xs a 25 → up 25 (after a c only) ≡ after a c only 25
+unfolding after
+bar-alone a c i = rw (none 24 (omega arith))
+  where
+    none : (n : ℕ) → n < 25 → up n (after a c only) ≡ []
+    none zero j = refl
+    none (suc n) j = rw (none n (omega arith), can-bar a (suc n) c (λ z. omega arith) i)
+
 -- with two or more on the bar that is one end at most, both dice entered
 pub enter-full : (b : List ℤ) (d c : ℕ) → Good b → Die d → 2 ≤ xs b 25 → enter b d c ≡ after b d (λ a. after a c only 25) 25
 unfolding enter
 enter-full b d c g dd h = go (canStep b 25 d) refl
   where
-    none : (a : List ℤ) → 0 < xs a 25 → (n : ℕ) → n < 25 → up n (after a c only) ≡ []
-    none a i zero j = refl
-    none a i (suc n) j = rw (none a i n (omega arith), can-bar a (suc n) c (λ z. omega arith) i)
-
     go : (t : Bool) → canStep b 25 d ≡ t → cond t (up 25 (after (stepped b 25 d) c only)) [] ≡ cond t (after (stepped b 25 d) c only 25) []
-    go true z = rw (none (stepped b 25 d) (omega (arith, bar-left b d g dd (test-legal b 25 d z))) 24 (omega arith))
+    go true z = bar-alone (stepped b 25 d) c (omega (arith, bar-left b d g dd (test-legal b 25 d z)))
     go false z = refl
 
 -- ---- tried: how many ends the first half has, the second, and the second without repeats

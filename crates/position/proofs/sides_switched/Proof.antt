@@ -1,27 +1,23 @@
 -- `position::sides_switched` meets its contract. The loop's invariant: the entries of the new board from 25 down that are written are minus the old board's.
-use mathlib.Core.Path.{_≡_, refl, ap, _∙_}
-use Prim.Native.Nat.{ℕ, _+_, _-_, _≤_, _<_}
-use native.Mathlib.Decide.{ℕ-discrete}
+use mathlib.Core.Path.{refl, ap, _∙_}
+use Prim.Native.Nat.{ℕ, _-_}
 use native.Mathlib.Omega.{arith}
 use lib.IntN.{ℤ, pos, negℤ}
-use lib.ListN.{length, getD, set, length-set}
-use lib.Seq.{getD-set-same, getD-set-other}
 use mir.Syntax.{w8}
 use Rattle.ints.proofs.Signed.{neg-fits, neg-held}
-use Rattle.ints.proofs.Sums.{table-is}
+use Rattle.ints.proofs.Sums.{Filled, filled-more, table-is}
 use Rattle.position.specs.Board.{entry, switched}
 use Rattle.position.proofs.sides_switched.Statement.{statement}
 use Rattle.position.proofs.sides_switched.Tie as tie
 
 abbrev Inv-loop : tie.InvT-loop
-Inv-loop b r₀ i₀ r i =
-    (i ≤ 26) × (length r ≡ 26) × ((k : ℕ) → k < 26 → 25 < k + i → getD r k (pos 0) ≡ negℤ (entry b (25 - k)))
+Inv-loop b r₀ i₀ r i = Filled (λ k. negℤ (entry b (25 - k))) (pos 0) 26 r i
 
 abbrev μ-loop : tie.MeasureT-loop
 μ-loop b r₀ i₀ r i = 26 - i
 
 loop-holds : tie.Need-loop-holds Inv-loop μ-loop
-loop-holds c = (omega arith, refl, λ k l m. absurd (omega arith))
+loop-holds c = record { most = omega arith; size = refl; at = λ k l m. absurd (omega arith) }
 
 array-copy-out-r : tie.Need-array-copy-out-r Inv-loop μ-loop
 array-copy-out-r c = omega arith
@@ -49,24 +45,15 @@ loop-again : tie.Need-loop-again Inv-loop μ-loop
 loop-again c =
     let b = c .before .before .before .args .t1 in
     let i = c .before .before .loop .i in
-    let r = c .before .before .loop .r in
-    let v = c .before .before .loop .inv in
-    rw (neg-held w8 (read c) (omega (arith, c .before .before .before .pre i))) (
-      omega arith,
-      length-set r (25 - i) (negℤ (entry b i)) ∙ v .1,
-      λ k l m. elim (ℕ-discrete k (25 - i)) [
-        | yes e ↦
-            let q : i ≡ 25 - k = omega arith in
-            rw e (getD-set-same r (25 - i) (negℤ (entry b i)) (pos 0) (omega (arith, v .1)) ∙ ap (λ (n : ℕ). negℤ (entry b n)) (omega arith))
-        | no n ↦ getD-set-other r (25 - i) k (negℤ (entry b i)) (pos 0) n ∙ v .2 k l (omega arith)
-      ],
-    )
+    filled-more (25 - i) _ (omega arith)
+    (neg-held w8 (read c) (omega (arith, c .before .before .before .pre i)) ∙ ap (λ (n : ℕ). negℤ (entry b n)) (omega arith))
+    (c .before .before .loop .inv)
 
 returns : tie.Need-returns Inv-loop μ-loop
 unfolding switched
 returns c =
-    table-is (λ k. negℤ (entry (c .before .before .args .t1) (25 - k))) 26 (c .before .loop .r) (pos 0) (c .before .loop .inv .1)
-    (λ k l. c .before .loop .inv .2 k l (omega arith))
+    let v = c .before .loop .inv in
+    table-is (λ k. negℤ (entry (c .before .before .args .t1) (25 - k))) 26 (c .before .loop .r) (pos 0) (v .size) (λ k l. v .at k l (omega arith))
 
 pub sides-switched-spec : {M : Type 1} → statement M
 sides-switched-spec =

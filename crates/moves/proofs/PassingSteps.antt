@@ -1,0 +1,71 @@
+-- Ends passed one after another through a window: what a loop over a mask's points keeps, in either direction, and ends of which none is seen.
+-- Assumes nothing.
+use mathlib.Core.Path.{_≡_, refl, sym, ap, _∙_}
+use mathlib.Core.List.{List, [], _∷_, map}
+use Prim.Native.Nat.{ℕ, _+_, _-_, _*_, _/_, _%_, _^_, _≤_, _<_}
+use native.Mathlib.Omega.{arith}
+use lib.IntN.{ℤ}
+use lib.ListN.{length, length-map}
+use lib.Seq.{sets}
+use Rattle.ints.specs.Lent.{store, written}
+use Rattle.ints.proofs.Lent.{length-store, store-in, written-step}
+use Rattle.ints.proofs.Masks.{First}
+use Rattle.position.specs.Step.{stepped}
+use Rattle.moves.specs.Bytes.{image, steps, Passed}
+
+-- ---- one end
+
+-- an end written in its slot is stored
+pub slot-stored : (o new : List ℕ) (from n : ℕ) (e : List ℕ) → (from ≤ n) × (n - from < length o / 26) → new ≡ sets o ((n - from) * 26) e
+    → new ≡ store 26 o from n e
+slot-stored o new from n e s h = h ∙ sym (store-in 26 o from n e (s .0) (s .1))
+
+pub passed-one : (b : List ℤ) (o new : List ℕ) (from start : ℕ) → new ≡ store 26 o from start (image b) → Passed (b ∷ []) o from start (start + 1) new
+unfolding written
+passed-one b o new from start h = record { number = omega arith; lent = h }
+
+-- ---- the ends after a step from each point of a mask
+
+-- passing what is left, the steps from the points of `rest`, does what passing those from the points of m did at the start
+pub record Left (points : ℕ → List ℕ) (b : List ℤ) (die m : ℕ) (o₀ : List ℕ) (from start : ℕ) (o : List ℕ) (n rest : ℕ) : Type 0 where
+  pub size : length o ≡ length o₀
+  pub small : rest < 2 ^ 25
+  pub number : n + length (points rest) ≡ start + length (points m)
+  pub lent : written 26 o from n (map image (steps b die (points rest))) ≡ written 26 o₀ from start (map image (steps b die (points m)))
+
+module _ (points : ℕ → List ℕ) (b : List ℤ) (die m : ℕ) (o₀ : List ℕ) (from start : ℕ) where
+  pub left-all : m < 2 ^ 25 → Left points b die m o₀ from start o₀ start m
+  left-all h = record { size = refl; small = h; number = refl; lent = refl }
+
+  -- a turn passes the end from the first point
+  pub left-less : (o new : List ℕ) (n rest q : ℕ) → First 32 25 rest q points → new ≡ store 26 o from n (image (stepped b q die))
+      → Left points b die m o₀ from start o n rest → Left points b die m o₀ from start new (n + 1) (rest - (1 * 2 ^ q) % 2 ^ 32)
+  left-less o new n rest q f e v =
+      let s = v .small in
+      record {
+        size = ap length e ∙ length-store 26 o from n (image (stepped b q die)) ∙ v .size;
+        small = omega arith;
+        number = omega (arith, v .number, ap length (f .parts));
+        lent =
+            written-step 26 o new from n (image (stepped b q die)) (map image (steps b die (points (rest - (1 * 2 ^ q) % 2 ^ 32)))) e
+            ∙ ap (λ (ps : List ℕ). written 26 o from n (map image (steps b die ps))) (sym (f .parts)) ∙ v .lent;
+      }
+
+  pub left-none : (o : List ℕ) (n rest : ℕ) → rest ≡ 0 → points 0 ≡ [] → Left points b die m o₀ from start o n rest
+      → Passed (steps b die (points m)) o₀ from start n o
+  unfolding written
+  left-none o n rest e none v =
+      let z : points rest ≡ [] = ap points e ∙ none in
+      record {
+        number = omega (arith, rw z at (v .number), length-map (points m) (λ p. stepped b p die));
+        lent = rw z at (v .lent);
+      }
+
+-- ---- ends outside the window
+
+-- where no ends of their number change anything, they are passed by counting them
+pub passed-over : (b : List ℤ) (die : ℕ) (ps o : List ℕ) (from start n : ℕ) → n ≡ length ps
+    → ((es : List (List ℕ)) → start + n ≡ start + length es → written 26 o from start es ≡ o) → Passed (steps b die ps) o from start (start + n) o
+passed-over b die ps o from start n e h =
+    let s = length-map ps (λ p. stepped b p die) in
+    record { number = omega arith; lent = sym (h (map image (steps b die ps)) (omega (arith, length-map (steps b die ps) image))) }
