@@ -9,7 +9,7 @@ use borrow.Author.Tests.{leb-true, le-leb, eqb-true, eqb-false, eq-eqb, ne-eqb}
 use Rattle.dice.specs.declared.MixedDice.{MixedDice}
 use Rattle.dice.specs.declared.Dice.{Dice}
 use Rattle.dice.specs.declared.Dice.the-variants.{Double, Mixed, Refused}
-use Rattle.dice.specs.Dice.{isDie, rollOf, diceOf}
+use Rattle.dice.specs.Dice.{isDie, Die, rollOf, diceOf}
 use Rattle.ints.proofs.Tests.{and-left, and-right}
 
 -- a die is a number from 1 to 6
@@ -20,6 +20,13 @@ die-range d t = (leb-true 1 d (and-left (leb 1 d) (leb d 6) t), leb-true d 6 (an
 pub range-die : (d : ℕ) → 1 ≤ d → d ≤ 6 → isDie d ≡ true
 unfolding isDie
 range-die d low high = rw (le-leb 1 d low, le-leb d 6 high)
+
+-- the test and the record of facts agree
+pub test-die : (d : ℕ) → isDie d ≡ true → Die d
+test-die d t = let r = die-range d t in record { low = omega arith; high = omega arith }
+
+pub die-test : (d : ℕ) → Die d → isDie d ≡ true
+die-test d k = range-die d (omega (arith, k .low)) (k .high)
 
 -- which facts make each case
 module _ (d1 d2 : ℕ) where

@@ -1,7 +1,7 @@
 -- What `Dice::new`, `dice_byte` and `dice_of_byte` answer, and which number or value each case of their enums stands for.
 use mathlib.Core.Bool.{Bool, false, cond, _&&_, _||_}
 use mathlib.Core.List.{List, [], _∷_}
-use Prim.Native.Nat.{ℕ, _/_, _%_, min, max}
+use Prim.Native.Nat.{ℕ, _/_, _%_, _≤_, _<_, min, max}
 use lib.Dec.{leb, eqb}
 use Rattle.ints.specs.Answer.{Answer, value, refused}
 use Rattle.dice.specs.declared.Dice.{Dice}
@@ -13,6 +13,11 @@ use Rattle.dice.specs.Rolls.{byteOf, rolls}
 -- Document 01, "Refusal numbers", 7: a die shows 1 to 6.
 unfoldable pub isDie : ℕ → Bool
 isDie d = leb 1 d && leb d 6
+
+-- the same as a record of plain facts
+pub record Die (d : ℕ) : Type 0 where
+  pub low : 0 < d
+  pub high : d ≤ 6
 
 -- Document 01, "Dice": two equal dice are a double, a larger and a smaller one are a mixed roll.
 unfoldable pub rollOf : ℕ → ℕ → Dice

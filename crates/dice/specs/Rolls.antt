@@ -8,7 +8,7 @@ use Rattle.ints.specs.Sums.{values}
 abbrev pub byteOf : ℕ → ℕ → ℕ
 byteOf larger smaller = larger * 16 + smaller
 
--- Document 01, "Dice": a small die has its double, of weight 1, then its mixed rolls upward, of weight 2; a roll's number is its weight times 256, plus its byte.
+-- Document 01, "Dice": a small die has its double, of weight 1, then its mixed rolls upward, of weight 2. Ours: a roll's number is its weight times 256, plus its byte.
 unfoldable pub rollsOf : ℕ → List ℕ
 unfolding values
 rollsOf small =
@@ -19,7 +19,7 @@ unfoldable pub rolls : List ℕ
 unfolding rollsOf
 rolls = rollsOf 1 ++ rollsOf 2 ++ rollsOf 3 ++ rollsOf 4 ++ rollsOf 5 ++ rollsOf 6
 
--- Document 01, "Dice": the weight of roll i says how often it comes up in 36 throws.
+-- Document 01, "Dice": the weight of roll i.
 unfoldable pub weight : ℕ → ℕ
 unfolding rolls
 weight i = getD rolls i 0 / 256

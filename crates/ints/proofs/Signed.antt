@@ -14,7 +14,7 @@ use native.Mathlib.Omega.{arith}
 use lib.IntN.{ℤ, pos, negsuc, negℤ, sucℤ, predℤ, natAbs, subℕ, _+ℤ_, _-ℤ_, +ℤ-idl, +ℤ-comm, +ℤ-one, -ℤ-one, negℤ-sucℤ, negℤ-predℤ}
 use lib.ListN.{set}
 use lib.Signed.{mag, ltZ, leZ, nonNeg}
-use lib.Dec.{T, ltb, leb}
+use lib.Dec.{T, ltb, leb, leb·suc-suc}
 use borrow.Author.Tests.{ltb-true, ltb-false, leb-true, leb-false}
 use mir.Syntax.{Width}
 use mir.Val.{SFits, toZ, ofZ, hbits}
@@ -247,13 +247,13 @@ module _ (w : Width) (z : ℤ) (g : mag z < 2 ^ hbits w) where
   pub none-no : ltZ (held w z) (pos 1) ≡ false → 0 < posPart z
   none-no e = omega (arith, apart z, lt-no z (pos 1) (rw (held-is w z g) at e))
 
-  -- z > -2, as a value
-  pub open-is : ltZ (negsuc 1) (held w z) ≡ leb (negPart z) 1
+  -- z >= -1, as a value
+  pub open-is : leZ (negsuc 0) (held w z) ≡ leb (negPart z) 1
   open-is = rw (held-is w z g) (by-sign z)
     where
-      by-sign : (y : ℤ) → ltZ (negsuc 1) y ≡ leb (negPart y) 1
+      by-sign : (y : ℤ) → leZ (negsuc 0) y ≡ leb (negPart y) 1
       by-sign (pos n) = refl
-      by-sign (negsuc n) = refl
+      by-sign (negsuc n) = sym (leb·suc-suc n 0)
 
   -- z == -1, whose fact is on the bits
   pub lone-yes : 0 < 2 ^ hbits w → ofZ w z ≡ ofZ w (negsuc 0) → z ≡ negsuc 0

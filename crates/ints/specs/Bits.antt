@@ -1,4 +1,4 @@
--- Bits of numbers and of bytes; a list of bits stands low first. Assumes nothing: these are definitions.
+-- Bits of numbers and of bytes; a list of bits stands low first.
 use mathlib.Core.Bool.{Bool, true, false, cond}
 use mathlib.Core.List.{List, [], _∷_, _++_}
 use Prim.Native.Nat.{ℕ, zero, suc, _+_, _*_, _/_, _%_, _^_, _<_}

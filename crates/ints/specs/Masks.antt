@@ -1,4 +1,4 @@
--- Sets of points as numbers: point i is digit i. Assumes nothing: these are definitions.
+-- Sets of points as numbers: point i is digit i.
 use mathlib.Core.Path.{_≡_}
 use mathlib.Core.Bool.{Bool, true, false}
 use mathlib.Core.List.{List, [], _∷_}
@@ -14,7 +14,7 @@ abbrev pub keep : Bool → ℕ → List ℕ → List ℕ
 keep true k l = k ∷ l
 keep false k l = l
 
--- The numbers among the n from k on of which f holds, low to high; `those n 0 (bit m)` are the points of the mask m.
+-- The numbers among the n from k on of which f holds, low to high; `those n 0 (bit m)` are the points of a mask m below 2 ^ n.
 unfoldable pub those : ℕ → ℕ → (ℕ → Bool) → List ℕ
 those zero k f = []
 those (suc n) k f = keep (f k) k (those n (suc k) f)

@@ -1,4 +1,4 @@
--- The byte of a signed entry. Assumes nothing: these are definitions.
+-- The byte of a signed entry.
 use mathlib.Core.Bool.{cond}
 use Prim.Native.Nat.{ℕ, _-_}
 use lib.Dec.{ltb}

@@ -20,7 +20,7 @@ use Rattle.position.specs.Board.{entry, xs}
 use Rattle.position.specs.Step.{Good, canStep, stepped}
 use Rattle.position.proofs.Steps.{can-none, can-bar, can-land, bar-from}
 use Rattle.rules.specs.Ends.{up, after, only, orElse, doubles, most}
-use Rattle.rules.proofs.Dice.{Die}
+use Rattle.dice.specs.Dice.{Die}
 use Rattle.rules.proofs.Lists.{Boards}
 use Rattle.rules.proofs.Bound.{doubles-at-most}
 use Rattle.moves.specs.Bytes.{steps, over}

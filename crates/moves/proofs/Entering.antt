@@ -26,7 +26,7 @@ use Rattle.position.proofs.Steps.{AfterStep, step-law, test-legal, reached, rea
 use Rattle.position.proofs.StepCode.{small-stepped}
 use Rattle.rules.specs.Ends.{after, only, orElse, enter, both, single, mixed}
 use Rattle.rules.specs.Omitted.{enterOnce}
-use Rattle.rules.proofs.Dice.{Die}
+use Rattle.dice.specs.Dice.{Die}
 use Rattle.rules.proofs.Two.{can-good}
 use Rattle.rules.proofs.Bound.{length-both}
 use Rattle.rules.proofs.Repeats.{both-bar, both-full, bar-alone, enter-full}

@@ -18,14 +18,13 @@ use Rattle.ints.specs.Lent.{Records, written}
 use Rattle.ints.proofs.Lent.{records-map, written-list, window-record, window-none}
 use Rattle.ints.proofs.Tests.{by-cond}
 use Rattle.ints.proofs.Twos.{from-twos}
-use Rattle.dice.specs.Dice.{isDie}
-use Rattle.dice.proofs.TwoDice.{die-range}
+use Rattle.dice.specs.Dice.{isDie, Die}
+use Rattle.dice.proofs.TwoDice.{test-die}
 use Rattle.position.specs.Board.{Accepted, startRefusal, switched}
 use Rattle.position.specs.Answers.{Started}
 use Rattle.position.proofs.Boards.{accepted-small}
 use Rattle.position.proofs.SideSwitch.{switched-size}
 use Rattle.rules.specs.Ends.{endsOf, switchedEndsOf, In}
-use Rattle.rules.proofs.Dice.{Die}
 use Rattle.rules.proofs.Bound.{at-most}
 use Rattle.rules.proofs.Switched.{switched-length, switched-end-accepted}
 use Rattle.moves.specs.Bytes.{image, Passed}
@@ -55,9 +54,6 @@ module _ (n : ℕ) (b : List ℤ) (d1 d2 : ℕ) where
     pub play-none : CanPlay n b d1 d2 → Playable n b d1 d2 0
     unfolding playRefusal
     play-none p = record { is = rw (le-ltb 0 (startRefusal n b) (omega arith), p .first, p .second); ok = λ z. p }
-
-pub is-die : (d : ℕ) → isDie d ≡ true → Die d
-is-die d t = let r = die-range d t in record { low = omega arith; high = omega arith }
 
 -- ---- ends as records
 
@@ -137,7 +133,7 @@ module _ (n : ℕ) (small : n ≤ 127) (b : List ℤ) (d1 d2 : ℕ) (p : CanPlay
 
       is-accepted : Accepted n (getD (switchedEndsOf b d1 d2) k [])
       is-accepted =
-          switched-end-accepted n b d1 d2 (p .accepted) (is-die d1 (p .first)) (is-die d2 (p .second)) (getD (switchedEndsOf b d1 d2) k [])
+          switched-end-accepted n b d1 d2 (p .accepted) (test-die d1 (p .first)) (test-die d2 (p .second)) (getD (switchedEndsOf b d1 d2) k [])
           (in-getD (switchedEndsOf b d1 d2) k inside)
 
 -- ---- the answers, as the code's tests go

@@ -18,7 +18,7 @@ use Rattle.position.specs.Step.{clearFrom, canStep, stepped}
 use Rattle.position.proofs.Steps.{clear-yes, clear-at}
 use Rattle.rules.specs.Ends.{up, down, after, only, fromTop}
 use Rattle.rules.specs.Omitted.{unlessOmitted, lowOnce}
-use Rattle.rules.proofs.Dice.{Die}
+use Rattle.dice.specs.Dice.{Die}
 use Rattle.rules.proofs.Bound.{length-both}
 use Rattle.rules.proofs.Repeats.{both-free}
 use Rattle.moves.specs.Bytes.{steps, over}

@@ -20,7 +20,7 @@ use Rattle.position.specs.Board.{xs, os}
 use Rattle.position.specs.Step.{Good, clearFrom, offFrom, canStep, stepped}
 use Rattle.position.proofs.Steps.{can-none, can-land, can-off, bar-empty, offFrom-most, test-legal}
 use Rattle.rules.specs.Ends.{up, down, after, only}
-use Rattle.rules.proofs.Dice.{Die}
+use Rattle.dice.specs.Dice.{Die}
 use Rattle.rules.proofs.Lists.{Way, rising, falling, walk}
 use Rattle.moves.specs.Bytes.{steps, over}
 use Rattle.moves.specs.Points.{isFree, Masked, offMask, originsMask, afterMask}

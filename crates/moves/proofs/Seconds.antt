@@ -20,7 +20,7 @@ use Rattle.position.specs.Step.{Good, canStep, stepped}
 use Rattle.position.proofs.Steps.{can-none}
 use Rattle.rules.specs.Ends.{up, down, after, only, single}
 use Rattle.rules.specs.Omitted.{omits, unlessOmitted}
-use Rattle.rules.proofs.Dice.{Die}
+use Rattle.dice.specs.Dice.{Die}
 use Rattle.rules.proofs.Two.{can-good}
 use Rattle.rules.proofs.Repeats.{omits-is}
 use Rattle.moves.specs.Bytes.{steps, over}

@@ -49,7 +49,7 @@ fn x_digit(e: i8) -> u32
 fn free_digit(e: i8) -> u32
     ensures { λ r. ⌜ r ≡ digit (leb (negPart e) 1) ⌝ }
 {
-    if e > -2 {
+    if e >= -1 {
         return 1;
     }
     0

@@ -82,7 +82,7 @@ pub extern "C" fn munchalep_end(
     put(moves::end(*board, die1, die2, number), out)
 }
 
-// The number of each case of a listing.
+// What each case of a listing answers: 256 times the number of ends, and 10 beside it where the list is short; or the refusal's number.
 fn listed_number(answer: Listed) -> u64
     requires { ⌜ carried (listTold answer) ≤ 17550 ⌝ }
     ensures { λ r. ⌜ r ≡ packed (listTold answer) ⌝ }
@@ -94,7 +94,7 @@ fn listed_number(answer: Listed) -> u64
     }
 }
 
-// The number of each case of a count.
+// What each case of a count answers: 256 times the number of ends, or the refusal's number.
 fn counted_number(answer: Counted) -> u64
     requires { ⌜ carried (countTold answer) ≤ 17550 ⌝ }
     ensures { λ r. ⌜ r ≡ packed (countTold answer) ⌝ }
@@ -118,7 +118,7 @@ fn put(answer: BoardAnswer, out: &mut [i8; 26]) -> u64
     0
 }
 
-// The number of each case of result and phase.
+// What each case of result and phase answers: 256 times its number, or the refusal's.
 fn number(phase: GamePhase) -> u64
     ensures { λ r. ⌜ r ≡ packed (phaseTold phase) ⌝ }
 {

@@ -7,15 +7,9 @@ use lib.ListN.{set, replicate}
 use Rattle.ints.specs.Answer.{value, refused}
 use Rattle.ints.specs.Sums.{sumTo, all, values}
 use Rattle.dice.specs.Dice.{isDie}
-use Rattle.position.specs.Board.{checkers, refusalOf, switched}
+use Rattle.position.specs.Board.{checkers, start, refusalOf, startRefusal, switched}
 use Rattle.position.specs.Step.{clearFrom, offFrom, canStep, lifted, landed, stepped, stepRefusal}
 use Rattle.position.specs.Phase.{highest, lowest, phaseOf, phaseAnswer}
-
--- the start board: x 24:2, 13:5, 8:3, 6:5 and o 1:2, 12:5, 17:3, 19:5
-abbrev start : List ℤ
-start =
-    pos 0 ∷ negsuc 1 ∷ pos 0 ∷ pos 0 ∷ pos 0 ∷ pos 0 ∷ pos 5 ∷ pos 0 ∷ pos 3 ∷ pos 0 ∷ pos 0 ∷ pos 0 ∷ negsuc 4 ∷ pos 5 ∷ pos 0 ∷ pos 0
-    ∷ pos 0 ∷ negsuc 2 ∷ pos 0 ∷ negsuc 4 ∷ pos 0 ∷ pos 0 ∷ pos 0 ∷ pos 0 ∷ pos 2 ∷ pos 0 ∷ []
 
 abbrev empty : List ℤ
 empty = replicate 26 (pos 0)
@@ -81,3 +75,76 @@ from-26 = refl
 die-first : stepRefusal checkers start 26 7 ≡ 7
 unfolding stepRefusal refusalOf sumTo isDie
 die-first = refl
+
+-- exact bear-off: from 6 by 6 with nothing outside the home board, whatever stands on o's bar; not with x on 7, nor with x on the bar
+exact : stepRefusal checkers (set (set empty 6 (pos 1)) 0 (negsuc 1)) 6 6 ≡ 0
+unfolding stepRefusal refusalOf sumTo isDie canStep clearFrom offFrom all
+exact = refl
+
+outside : stepRefusal checkers (set (set empty 6 (pos 1)) 7 (pos 1)) 6 6 ≡ 9
+unfolding stepRefusal refusalOf sumTo isDie canStep clearFrom offFrom all
+outside = refl
+
+on-the-bar : stepRefusal checkers (set (set empty 6 (pos 1)) 25 (pos 1)) 6 6 ≡ 9
+unfolding stepRefusal refusalOf sumTo isDie canStep
+on-the-bar = refl
+
+-- from the bar onto a lone o, and against two
+enters : stepped (set (set empty 25 (pos 2)) 19 (negsuc 0)) 25 6 ≡ set (set (set empty 25 (pos 1)) 19 (pos 1)) 0 (negsuc 0)
+unfolding stepped lifted landed
+enters = refl
+
+blocked : stepRefusal checkers (set (set empty 25 (pos 2)) 19 (negsuc 1)) 25 6 ≡ 9
+unfolding stepRefusal refusalOf sumTo isDie canStep
+blocked = refl
+
+-- the other refusals of a board: o's sixteenth, x on o's bar; and a wrong bar counts with the side whose sign it has
+o-sixteen : refusalOf checkers (set empty 6 (negsuc 15)) ≡ 2
+unfolding refusalOf sumTo
+o-sixteen = refl
+
+x-on-o-bar : refusalOf checkers (set empty 0 (pos 1)) ≡ 4
+unfolding refusalOf sumTo
+x-on-o-bar = refl
+
+sixteen-on-o-bar : refusalOf checkers (set empty 0 (pos 16)) ≡ 1
+unfolding refusalOf sumTo
+sixteen-on-o-bar = refl
+
+-- where a play is asked: the empty board is 6, a side that is all off is 5
+nobody : startRefusal checkers empty ≡ 6
+unfolding startRefusal refusalOf sumTo
+nobody = refl
+
+finished : startRefusal checkers (set empty 6 (pos 1)) ≡ 5
+unfolding startRefusal refusalOf sumTo
+finished = refl
+
+-- result and phase: race, then x's three wins and o's three
+race : phaseAnswer checkers (set (set empty 5 (pos 1)) 20 (negsuc 0)) ≡ value 1
+unfolding phaseAnswer refusalOf sumTo phaseOf highest lowest
+race = refl
+
+win-normal : phaseAnswer checkers (set empty 20 (negsuc 13)) ≡ value 2
+unfolding phaseAnswer refusalOf sumTo phaseOf
+win-normal = refl
+
+win-gammon : phaseAnswer checkers (set empty 7 (negsuc 14)) ≡ value 3
+unfolding phaseAnswer refusalOf sumTo phaseOf
+win-gammon = refl
+
+win-bg : phaseAnswer checkers (set empty 6 (negsuc 14)) ≡ value 4
+unfolding phaseAnswer refusalOf sumTo phaseOf
+win-bg = refl
+
+lose-normal : phaseAnswer checkers (set empty 25 (pos 14)) ≡ value 5
+unfolding phaseAnswer refusalOf sumTo phaseOf
+lose-normal = refl
+
+lose-gammon : phaseAnswer checkers (set empty 18 (pos 15)) ≡ value 6
+unfolding phaseAnswer refusalOf sumTo phaseOf
+lose-gammon = refl
+
+lose-bg : phaseAnswer checkers (set empty 19 (pos 15)) ≡ value 7
+unfolding phaseAnswer refusalOf sumTo phaseOf
+lose-bg = refl

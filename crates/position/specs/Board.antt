@@ -1,15 +1,15 @@
 -- The board and its side switch (document 01, "The board", "Refusal numbers"). Every rule is said over x's and o's checkers at an entry.
 use mathlib.Core.Path.{_≡_}
 use mathlib.Core.Bool.{cond, _||_}
-use mathlib.Core.List.{List}
+use mathlib.Core.List.{List, [], _∷_}
 use Prim.Native.Nat.{ℕ, _+_, _-_, _≤_}
 use lib.Dec.{ltb, eqb}
-use lib.IntN.{ℤ, pos, negℤ}
+use lib.IntN.{ℤ, pos, negsuc, negℤ}
 use lib.ListN.{length, getD}
 use Rattle.ints.specs.Signed.{posPart, negPart}
 use Rattle.ints.specs.Sums.{sumTo, values}
 
--- "The board": each side plays with fifteen checkers; a checker that is not on the board is off
+-- "The board": each side plays with fifteen checkers
 abbrev pub checkers : ℕ
 checkers = 15
 
@@ -40,7 +40,7 @@ refusalOf n b =
     (cond (ltb 0 (os b 25)) 3
     (cond (ltb 0 (xs b 0)) 4 0)))
 
--- "Refusal numbers" 6 and 5, after 1 to 4, where a play is asked or a card starts: neither side has a checker on the board; one side has all off
+-- "Refusal numbers" 6 and 5, after 1 to 4, where a play is asked or a card starts: neither side has a checker on the board; one side has all off; 0 for none
 unfoldable pub startRefusal : ℕ → List ℤ → ℕ
 startRefusal n b =
     cond (ltb 0 (refusalOf n b)) (refusalOf n b)
@@ -54,6 +54,12 @@ pub record Accepted (n : ℕ) (b : List ℤ) : Type 0 where
   pub o-most : oAll b ≤ n
   pub x-bar : os b 25 ≡ 0
   pub o-bar : xs b 0 ≡ 0
+
+-- "The board": the start board, x 24:2, 13:5, 8:3, 6:5 and o 1:2, 12:5, 17:3, 19:5
+abbrev pub start : List ℤ
+start =
+    pos 0 ∷ negsuc 1 ∷ pos 0 ∷ pos 0 ∷ pos 0 ∷ pos 0 ∷ pos 5 ∷ pos 0 ∷ pos 3 ∷ pos 0 ∷ pos 0 ∷ pos 0 ∷ negsuc 4 ∷ pos 5 ∷ pos 0 ∷ pos 0
+    ∷ pos 0 ∷ negsuc 2 ∷ pos 0 ∷ negsuc 4 ∷ pos 0 ∷ pos 0 ∷ pos 0 ∷ pos 0 ∷ pos 2 ∷ pos 0 ∷ []
 
 -- "Side switch": entry 25 - i of the new board is minus entry i of the old
 unfoldable pub switched : List ℤ → List ℤ

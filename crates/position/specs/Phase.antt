@@ -18,7 +18,7 @@ unfoldable pub lowest : (ℕ → ℕ) → ℕ → ℕ → ℕ
 lowest f i zero = i
 lowest f i (suc n) = cond (ltb 0 (f i)) i (lowest f (i + 1) n)
 
--- "Result and phase", x all off: 2 if o has any off, else 4 if o stands on 0 to 6, else 3; o all off: 5, 7, 6 alike, with x on 19 to 25;
+-- "Result and phase", x all off: 2 if o has any off (fewer than n on the board), else 4 if o stands on 0 to 6, else 3; o all off: 5, 7, 6 alike, with x on 19 to 25;
 -- unfinished: 0 if the highest entry that holds x exceeds the lowest that holds o, both bars counted, else 1
 unfoldable pub phaseOf : ℕ → List ℤ → ℕ
 phaseOf n b =
@@ -26,7 +26,7 @@ phaseOf n b =
     (cond (eqb (oAll b) 0) (cond (ltb (xAll b) n) 5 (cond (ltb (sumTo (xs b) 19) (xAll b)) 7 6))
     (cond (ltb (lowest (os b) 0 26) (highest (xs b) 26)) 0 1))
 
--- "Refusal numbers": the board's refusal, then 6 where neither side has a checker on the board, else the number
+-- "Refusal numbers": the board's refusal, then 6 where neither side has a checker on the board, else the number of result and phase
 unfoldable pub phaseAnswer : ℕ → List ℤ → Answer
 phaseAnswer n b =
     cond (ltb 0 (refusalOf n b)) (refused (refusalOf n b) 0)

@@ -10,7 +10,7 @@ use Rattle.ints.specs.Sums.{all}
 use Rattle.dice.specs.Dice.{isDie}
 use Rattle.position.specs.Board.{entry, xs, os, refusalOf}
 
--- what a step needs of a board: 26 entries, and no x on o's bar; every accepted board has both
+-- what the laws of a step ask of a board: 26 entries, and no x on o's bar; every accepted board has both
 pub record Good (b : List ℤ) : Type 0 where
   pub size : length b ≡ 26
   pub o-bar : xs b 0 ≡ 0
@@ -19,18 +19,19 @@ pub record Good (b : List ℤ) : Type 0 where
 unfoldable pub clearFrom : List ℤ → ℕ → Bool
 clearFrom b lo = all (λ k. eqb (xs b (lo + k)) 0) (25 - lo)
 
--- "Steps and ends": a checker borne off from p by d asks for no x from 7 on where p = d, and from p + 1 on where p < d
+-- "Steps and ends": a checker borne off from p by d, p at most d, asks for no x from 7 on where p = d, and from p + 1 on where p < d
 unfoldable pub offFrom : ℕ → ℕ → ℕ
 offFrom p d = cond (eqb p d) 7 (p + 1)
 
--- "Steps and ends": x has a checker on p; p is 25 exactly if x's bar is not empty; the checker lands where o has at most one, or is borne off
+-- "Steps and ends": x has a checker on p; p is 25 exactly if x's bar is not empty; the checker lands where o has at most one, or
+-- is borne off with no x from `offFrom` on
 unfoldable pub canStep : List ℤ → ℕ → ℕ → Bool
 canStep b p d =
     ltb 0 (xs b p)
     && cond (eqb p 25) (ltb 0 (xs b 25)) (eqb (xs b 25) 0)
     && cond (ltb d p) (leb (os b (p - d)) 1) (clearFrom b (offFrom p d))
 
--- the same rule as a record of plain facts
+-- the same rule, for a point up to 25, as a record of plain facts
 pub record Legal (b : List ℤ) (p d : ℕ) : Type 0 where
   pub has : 0 < xs b p
   pub bar : p < 25 → xs b 25 ≡ 0

@@ -195,7 +195,7 @@ pub fn can_move(b: &[i8; 26], from: usize, die: usize) -> bool
         }
     }
     if die < from {
-        return b[from - die] > -2;
+        return b[from - die] >= -1;
     }
     if from == die {
         return clear_from(b, 7);
@@ -203,7 +203,7 @@ pub fn can_move(b: &[i8; 26], from: usize, die: usize) -> bool
     clear_from(b, from + 1)
 }
 
-// The board after a step, legal or not. Entries stay small enough to add to.
+// The board after a step, legal or not. The entries must leave room for one more.
 pub fn move_single_checker(b: [i8; 26], from: usize, die: usize) -> [i8; 26]
     requires { ⌜ from ≤ 25 ⌝ }
     requires { ⌜ Small 124 b ⌝ }

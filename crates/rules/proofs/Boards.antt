@@ -7,6 +7,7 @@ use lib.Dec.{eqb, leb, ltb}
 use lib.IntN.{ℤ}
 use lib.ListN.{length}
 use Rattle.ints.specs.Sums.{all}
+use Rattle.dice.specs.Dice.{isDie}
 use Rattle.position.specs.Board.{xs}
 use Rattle.position.specs.Step.{canStep, clearFrom, offFrom, stepped, lifted, landed}
 use Rattle.rules.specs.Ends.{sameBoard, endsOf}
@@ -16,9 +17,6 @@ use Rattle.rules.specs.Cases.{Case, ends, numberOf, cases}
 unfoldable pub good : List ℤ → Bool
 good b = eqb (length b) 26 && eqb (xs b 0) 0
 
-unfoldable pub die : ℕ → Bool
-die d = ltb 0 d && leb d 6
-
 abbrev pub same : List (List ℤ) → List (List ℤ) → Bool
 same [] [] = true
 same [] (c ∷ cs) = false
@@ -26,8 +24,8 @@ same (b ∷ bs) [] = false
 same (b ∷ bs) (c ∷ cs) = sameBoard b c && same bs cs
 
 unfoldable pub passes : Case → Bool
-unfolding good die
-passes (ends number b d1 d2 es) = (good b && (die d1 && die d2)) && same (endsOf b d1 d2) es
+unfolding good isDie
+passes (ends number b d1 d2 es) = (good b && (isDie d1 && isDie d2)) && same (endsOf b d1 d2) es
 
 -- the numbers of the cases that do not pass
 abbrev pub failing : List Case → List ℕ

@@ -18,7 +18,8 @@ use Rattle.position.specs.Step.{Good, canStep, stepped}
 use Rattle.position.proofs.Steps.{test-legal, step-law}
 use Rattle.rules.specs.Plays.{LegalEnd}
 use Rattle.rules.specs.Ends.{up, down, after, only, among, unseen, join, orElse, doubles, most, fromTop, fromLow, enter, both, single, mixed, endsOf, In, Once}
-use Rattle.rules.proofs.Dice.{Die, smaller-die, larger-die, mixed-list}
+use Rattle.dice.specs.Dice.{Die}
+use Rattle.rules.proofs.Dice.{smaller-die, larger-die, mixed-list}
 use Rattle.rules.proofs.Lists.{Boards, Way, rising, falling, walk, orElse-keeps}
 use Rattle.rules.proofs.Two.{One, Two, can-good, from-bar}
 use Rattle.rules.proofs.Commute.{swap}

@@ -13,7 +13,7 @@ use Rattle.position.specs.Board.{xs, os}
 use Rattle.position.specs.Step.{Good, canStep, Legal, stepped}
 use Rattle.position.proofs.Boards.{same-board}
 use Rattle.position.proofs.Steps.{test-legal, legal-test, AfterStep, step-law, step-good, from-within, offFrom-above, reached, reached-on, reached-off, reached-cases, reached-above, hits, hits-on, hits-off}
-use Rattle.rules.proofs.Dice.{Die}
+use Rattle.dice.specs.Dice.{Die}
 
 -- both sides have as many checkers at i
 abbrev SameAt : List ℤ → List ℤ → ℕ → Type 0

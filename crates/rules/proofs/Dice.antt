@@ -1,4 +1,4 @@
--- The two dice of a roll: their range, the dice that a roll gives, and that a roll does not tell its first die from its second.
+-- The two dice of a roll: the smaller and the larger, the dice that a roll gives, and that a roll does not tell its first die from its second.
 -- Assumes nothing.
 use mathlib.Core.Path.{_≡_, sym, ap}
 use mathlib.Core.Bool.{Bool, true, cond}
@@ -11,14 +11,10 @@ use native.Mathlib.Decide.{ℕ-discrete}
 use borrow.Author.Tests.{eq-eqb, ne-eqb}
 use lib.IntN.{ℤ}
 use lib.ListN.{replicate}
+use Rattle.dice.specs.Dice.{Die}
 use Rattle.position.specs.Step.{canStep}
 use Rattle.rules.specs.Plays.{diceRolled, LegalEnd}
 use Rattle.rules.specs.Ends.{most, mixed, endsOf}
-
--- a die shows 1 to 6
-pub record Die (d : ℕ) : Type 0 where
-  pub low : 0 < d
-  pub high : d ≤ 6
 
 module _ (d1 d2 : ℕ) where
   pub smaller-die : Die d1 → Die d2 → Die (min d1 d2)

@@ -13,7 +13,8 @@ use Rattle.position.specs.Step.{Good, canStep, stepped}
 use Rattle.position.proofs.Steps.{test-legal}
 use Rattle.rules.specs.Plays.{AnyDie, Play, LegalEnd}
 use Rattle.rules.specs.Ends.{after, doubles, most, In, Once}
-use Rattle.rules.proofs.Dice.{Die, double-dice}
+use Rattle.dice.specs.Dice.{Die}
+use Rattle.rules.proofs.Dice.{double-dice}
 use Rattle.rules.proofs.Lists.{rising, in-walk, walk-in, once-walk, in-after, after-in, once-after, in-orElse, orElse-left, orElse-right, orElse-keeps, once-only, in-none}
 use Rattle.rules.proofs.Two.{can-within, can-good}
 use Rattle.rules.proofs.Commute.{swap}

@@ -13,7 +13,8 @@ use Rattle.position.specs.Step.{Good}
 use Rattle.position.proofs.Steps.{accepted-good}
 use Rattle.rules.specs.Plays.{LegalEnd}
 use Rattle.rules.specs.Ends.{endsOf, In, Once}
-use Rattle.rules.proofs.Dice.{Die, smaller-die, larger-die, double-list, mixed-list}
+use Rattle.dice.specs.Dice.{Die}
+use Rattle.rules.proofs.Dice.{smaller-die, larger-die, double-list, mixed-list}
 use Rattle.rules.proofs.Lists.{Boards, no-longer}
 use Rattle.rules.proofs.Doubles.{double-legal, double-listed, once-most}
 use Rattle.rules.proofs.Mixed.{mixed-legal, mixed-listed, once-mixed}

@@ -10,7 +10,7 @@ use Rattle.ints.proofs.Sums.{one-same, one-other}
 use Rattle.position.specs.Board.{xs}
 use Rattle.position.specs.Step.{Good, Legal, stepped}
 use Rattle.position.proofs.Steps.{AfterStep, step-law, reached-above}
-use Rattle.rules.proofs.Dice.{Die}
+use Rattle.dice.specs.Dice.{Die}
 
 -- from b to e x got none on top, and above it nothing changed
 pub record Below (b e : List ℤ) (top : ℕ) : Type 0 where

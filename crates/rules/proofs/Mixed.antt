@@ -15,7 +15,8 @@ use Rattle.position.specs.Step.{Good, canStep, stepped}
 use Rattle.position.proofs.Steps.{test-legal}
 use Rattle.rules.specs.Plays.{diceRolled, Play, LegalEnd}
 use Rattle.rules.specs.Ends.{after, only, join, orElse, fromTop, fromLow, enter, both, single, mixed, In, Once}
-use Rattle.rules.proofs.Dice.{Die, smaller-die, larger-die, mixed-dice}
+use Rattle.dice.specs.Dice.{Die}
+use Rattle.rules.proofs.Dice.{smaller-die, larger-die, mixed-dice}
 use Rattle.rules.proofs.Lists.{Boards, Way, rising, falling, walk, SomeOf, in-walk, walk-in, once-walk, in-after, after-in, once-after, in-join, join-in, once-join, in-orElse, orElse-left, orElse-right, orElse-keeps, once-only, in-none}
 use Rattle.rules.proofs.Two.{One, Two, can-within, can-good, from-bar, from-point}
 use Rattle.rules.proofs.Plays.{play-most}

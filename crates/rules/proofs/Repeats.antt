@@ -27,7 +27,7 @@ use Rattle.position.proofs.Boards.{same-board}
 use Rattle.position.proofs.Steps.{clear-yes, clear-at, offFrom-exact, offFrom-over, offFrom-above, test-legal, legal-test, can-bar, from-within, reached, reached-on, reached-off, hits, hits-on, hits-off, AfterStep, step-law, reached-cases, reached-above, step-good}
 use Rattle.rules.specs.Ends.{up, down, after, only, among, unseen, join, fromTop, fromLow, enter, both, In}
 use Rattle.rules.specs.Omitted.{omits, unlessOmitted, lowOnce, enterOnce}
-use Rattle.rules.proofs.Dice.{Die}
+use Rattle.dice.specs.Dice.{Die}
 use Rattle.rules.proofs.Marks.{Mark, marks}
 use Rattle.rules.proofs.Commute.{swap-first, swap-second, swap-same}
 use Rattle.rules.proofs.Lists.{Boards, Way, rising, falling, walk, SomeOf, in-walk, walk-in, in-after, after-in, among-is}

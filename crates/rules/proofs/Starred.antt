@@ -16,10 +16,11 @@ use Rattle.position.specs.Step.{Good}
 use Rattle.rules.specs.Plays.{LegalEnd}
 use Rattle.rules.specs.Ends.{sameBoard, endsOf, In}
 use Rattle.rules.specs.Cases.{Case, ends, numberOf, Told, All, cases}
-use Rattle.rules.proofs.Dice.{Die}
+use Rattle.dice.specs.Dice.{isDie}
+use Rattle.dice.proofs.TwoDice.{test-die}
 use Rattle.rules.proofs.Lists.{Boards, sameBoard-is}
 use Rattle.rules.proofs.Exact.{exact}
-use Rattle.rules.proofs.Boards.{good, die, same, passes, failing, passed}
+use Rattle.rules.proofs.Boards.{good, same, passes, failing, passed}
 
 and-parts : (s t : Bool) → s && t ≡ true → (s ≡ true) × (t ≡ true)
 and-parts s t e = (and-left s t e, and-right s t e)
@@ -29,10 +30,6 @@ unfolding good
 is-good b t =
     let h = and-parts (eqb (length b) 26) (eqb (xs b 0) 0) t in
     record { size = eqb-true (length b) 26 (h .0); o-bar = eqb-true (xs b 0) 0 (h .1) }
-
-is-die : (d : ℕ) → die d ≡ true → Die d
-unfolding die
-is-die d t = let h = and-parts (ltb 0 d) (leb d 6) t in record { low = ltb-true 0 d (h .0); high = leb-true d 6 (h .1) }
 
 is-same : (l r : Boards) → same l r ≡ true → l ≡ r
 is-same [] [] t = refl
@@ -47,11 +44,11 @@ is-same (b ∷ bs) (c ∷ cs) t =
 told : (c : Case) → passes c ≡ true → Told c
 unfolding passes
 told (ends number b d1 d2 es) t =
-    let h = and-parts (good b && (die d1 && die d2)) (same (endsOf b d1 d2) es) t in
-    let k = and-parts (good b) (die d1 && die d2) (h .0) in
-    let ds = and-parts (die d1) (die d2) (k .1) in
+    let h = and-parts (good b && (isDie d1 && isDie d2)) (same (endsOf b d1 d2) es) t in
+    let k = and-parts (good b) (isDie d1 && isDie d2) (h .0) in
+    let ds = and-parts (isDie d1) (isDie d2) (k .1) in
     let q = is-same (endsOf b d1 d2) es (h .1) in
-    (q, λ e. subst (λ (l : Boards). In e l ↔ LegalEnd b d1 d2 e) q (exact b d1 d2 (is-good b (k .0)) (is-die d1 (ds .0)) (is-die d2 (ds .1)) e))
+    (q, λ e. subst (λ (l : Boards). In e l ↔ LegalEnd b d1 d2 e) q (exact b d1 d2 (is-good b (k .0)) (test-die d1 (ds .0)) (test-die d2 (ds .1)) e))
 
 all-told : (cs : List Case) → failing cs ≡ [] → All Told cs
 all-told [] t = tt

@@ -10,7 +10,7 @@ use Rattle.position.specs.Board.{Accepted, switched}
 use Rattle.position.proofs.SideSwitch.{switched-accepted, switched-same}
 use Rattle.rules.specs.Plays.{LegalEnd}
 use Rattle.rules.specs.Ends.{endsOf, switchedEndsOf, In, Once}
-use Rattle.rules.proofs.Dice.{Die}
+use Rattle.dice.specs.Dice.{Die}
 use Rattle.rules.proofs.Lists.{in-map, map-in, once-map}
 use Rattle.rules.proofs.Exact.{accepted-exact, accepted-once}
 use Rattle.rules.proofs.Accepted.{end-accepted}

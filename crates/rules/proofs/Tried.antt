@@ -1,15 +1,14 @@
--- How many ends some boards have, computed.
+-- The list computed at closed boards: how many ends there are, and in which order they stand.
 use mathlib.Core.Path.{_≡_, refl}
-use mathlib.Core.List.{List, [], _∷_}
+use mathlib.Core.List.{List, [], _∷_, map}
+use Prim.Native.Nat.{ℕ}
 use lib.IntN.{ℤ, pos, negsuc}
 use lib.ListN.{length}
 use Rattle.ints.specs.Sums.{all}
+use Rattle.position.specs.Board.{start}
 use Rattle.position.specs.Step.{canStep, clearFrom, offFrom, stepped, lifted, landed}
 use Rattle.rules.specs.Ends.{endsOf}
 use Rattle.rules.specs.Cases.{blank, x, o}
-
-abbrev start : List ℤ
-start = x 24 2 (x 13 5 (x 8 3 (x 6 5 (o 1 2 (o 12 5 (o 17 3 (o 19 5 blank)))))))
 
 start-mixed : length (endsOf start 3 1) ≡ 16
 unfolding endsOf canStep clearFrom offFrom all stepped lifted landed
@@ -29,3 +28,28 @@ spread =
 most-found : length (endsOf spread 1 1) ≡ 2226
 unfolding endsOf canStep clearFrom offFrom all stepped lifted landed
 most-found = refl
+
+-- the order inside each half: smaller die first from the top down, then larger first from low to high
+abbrev xs-on : ℕ → ℕ → ℕ → List ℤ → List ℤ
+xs-on p q r b = x p 1 (x q 1 (x r 1 b))
+
+order-of-halves : endsOf (xs-on 13 9 5 (o 20 1 blank)) 2 1
+    ≡ map (λ f. f (o 20 1 blank)) (xs-on 10 9 5 ∷ xs-on 12 7 5 ∷ xs-on 12 9 3 ∷ xs-on 13 6 5 ∷ xs-on 13 8 3 ∷ xs-on 13 9 2 ∷ xs-on 13 7 4 ∷ xs-on 11 9 4 ∷ xs-on 11 8 5 ∷ [])
+unfolding endsOf canStep clearFrom offFrom all stepped lifted landed
+order-of-halves = refl
+
+-- one on the bar: entered with the larger die, then with the smaller, origins low to high
+order-from-bar : endsOf (xs-on 25 8 6 (o 0 1 blank)) 2 1
+    ≡ map (λ f. f (o 0 1 blank)) (xs-on 23 8 5 ∷ xs-on 23 7 6 ∷ xs-on 22 8 6 ∷ xs-on 24 8 4 ∷ (λ b. x 24 1 (x 6 2 b)) ∷ [])
+unfolding endsOf canStep clearFrom offFrom all stepped lifted landed
+order-from-bar = refl
+
+-- one die alone, and a double: low to high
+order-of-one : endsOf (x 9 1 (x 7 1 (o 2 2 (o 4 2 blank)))) 6 5 ≡ x 9 1 (x 1 1 (o 2 2 (o 4 2 blank))) ∷ x 7 1 (x 3 1 (o 2 2 (o 4 2 blank))) ∷ []
+unfolding endsOf canStep clearFrom offFrom all stepped lifted landed
+order-of-one = refl
+
+order-of-double : endsOf (x 6 1 (x 4 1 (o 20 1 blank))) 1 1
+    ≡ map (λ f. f (o 20 1 blank)) (x 6 1 ∷ (λ b. x 5 1 (x 1 1 b)) ∷ (λ b. x 4 1 (x 2 1 b)) ∷ x 3 2 ∷ [])
+unfolding endsOf canStep clearFrom offFrom all stepped lifted landed
+order-of-double = refl

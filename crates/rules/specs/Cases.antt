@@ -1,6 +1,7 @@
--- The starred boards of document 01, "Boards to try", as one list, and what is told of each. `proofs/Starred.antt` proves all of it at once.
+-- What is told of the starred boards of document 01, "Boards to try", as one list: the ends of boards 1 to 9. `proofs/Starred.antt` proves
+-- all of it at once.
 --
--- A case of another kind joins as a constructor of `Case` (the document's number, what is given, what is told), its clauses of `Told` and
+-- What else is told of them (steps of 1, 5, 9; refusals of 10, 11, 12) joins with recovery, listing and the key, each kind as a constructor of `Case` (the document's number, what is given, what is told), its clauses of `Told` and
 -- `numberOf`, its clause of the test in `proofs/Boards.antt` and of `told` in `proofs/Starred.antt`, and its line in `cases`:
 --     the steps that recovery writes (1, 5, 9): board, dice, end, and the steps, each a from and a to
 --     a recovery that is refused (10), a listing that is refused (11): what is asked, and the refusal's number

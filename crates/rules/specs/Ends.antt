@@ -97,7 +97,7 @@ unfoldable pub single : List ℤ → ℕ → List (List ℤ)
 unfolding after
 single b d = up 25 (after b d only)
 
--- demand 3: both dice, else the larger alone, else the smaller alone, else the unchanged board
+-- "Steps and ends": both dice, else the larger alone, else the smaller alone, else the unchanged board
 unfoldable pub mixed : List ℤ → ℕ → ℕ → List (List ℤ)
 unfolding both single
 mixed b s l = orElse (both b s l) (orElse (single b l) (orElse (single b s) (only b)))

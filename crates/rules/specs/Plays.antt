@@ -1,4 +1,4 @@
--- Which ends a roll leads to (demand 3; document 01, "Steps and ends"): plays alone, with no list, no order and no shortcut.
+-- Which ends a roll leads to (document 01, "Steps and ends", and what a legal end is, below): plays alone, with no list, no order and no shortcut.
 use mathlib.Core.Path.{_≡_}
 use mathlib.Core.Logic.{_⊎_}
 use mathlib.Core.Bool.{true, cond}
@@ -23,7 +23,7 @@ abbrev pub Play : ℕ → List ℕ → List ℤ → List ℤ → Type 0
 Play zero ds b e = e ≡ b
 Play (suc n) ds b e = AnyDie ds (λ d rest. (p : ℕ) × (canStep b p d ≡ true) × Play n rest (stepped b p d) e)
 
--- demand 3: a legal end is where a play stops that uses the most dice possible, the larger die if only one can be used and the
+-- a legal end is where a play stops that uses the most dice possible, the larger die if only one can be used and the
 -- larger could, or the unchanged board if none can (a play of no dice)
 pub record LegalEnd (b : List ℤ) (d1 d2 : ℕ) (e : List ℤ) : Type 0 where
   pub used : ℕ

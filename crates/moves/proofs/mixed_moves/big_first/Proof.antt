@@ -13,7 +13,7 @@ use Rattle.ints.proofs.Masks.{First, lowest, those-zero}
 use Rattle.ints.proofs.Signed.{small-more}
 use Rattle.position.specs.Step.{stepped}
 use Rattle.rules.specs.Omitted.{lowOnce}
-use Rattle.rules.proofs.Dice.{Die}
+use Rattle.dice.specs.Dice.{Die}
 use Rattle.rules.proofs.Two.{can-within}
 use Rattle.moves.specs.Bytes.{over}
 use Rattle.moves.proofs.Halves.{lowFrom, shifted-clear, shifted-held, low-over, low-none, halves-few}

@@ -6,7 +6,7 @@ use borrow.Author.Tests.{not-true, not-false}
 use Rattle.ints.specs.Bits.{bit}
 use Rattle.ints.proofs.Masks.{length-those-le}
 use Rattle.ints.proofs.Signed.{small-more}
-use Rattle.rules.proofs.Dice.{Die}
+use Rattle.dice.specs.Dice.{Die}
 use Rattle.moves.proofs.Entering.{entered-lt, enter-turn, enter-no}
 use Rattle.moves.proofs.Passing.{passed-is, passed-none}
 use Rattle.moves.proofs.mixed_moves.enter.Statement.{statement}

@@ -5,7 +5,7 @@ use Rattle.ints.specs.Bits.{bit}
 use Rattle.ints.proofs.Masks.{length-those-le}
 use Rattle.ints.proofs.Signed.{small-more}
 use Rattle.rules.specs.Ends.{single, only, orElse}
-use Rattle.rules.proofs.Dice.{Die}
+use Rattle.dice.specs.Dice.{Die}
 use Rattle.moves.proofs.Passing.{passed-is, passed-some, passed-else}
 use Rattle.moves.proofs.Seconds.{Kept, single-all}
 use Rattle.moves.proofs.mixed_moves.one_die.Statement.{statement}

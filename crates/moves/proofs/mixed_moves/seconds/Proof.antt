@@ -1,7 +1,7 @@
 -- `moves::mixed_moves::seconds` meets its contract: the origins below p on the board after the first step, without the omitted one.
 use native.Mathlib.Omega.{arith}
 use borrow.Author.Needs.{needs}
-use Rattle.rules.proofs.Dice.{Die}
+use Rattle.dice.specs.Dice.{Die}
 use Rattle.moves.proofs.Seconds.{Kept}
 use Rattle.moves.proofs.Halves.{low-turn}
 use Rattle.moves.proofs.mixed_moves.seconds.Statement.{statement}

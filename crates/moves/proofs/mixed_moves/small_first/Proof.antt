@@ -12,7 +12,7 @@ use Rattle.ints.proofs.Masks.{First, highest, leading, down-zero}
 use Rattle.ints.proofs.Signed.{small-more}
 use Rattle.position.specs.Step.{stepped}
 use Rattle.rules.specs.Ends.{fromTop}
-use Rattle.rules.proofs.Dice.{Die}
+use Rattle.dice.specs.Dice.{Die}
 use Rattle.moves.specs.Bytes.{steps, over}
 use Rattle.moves.proofs.Halves.{topFrom, top-over, top-turn, halves-few}
 use Rattle.moves.proofs.Seconds.{Kept, origin-can}

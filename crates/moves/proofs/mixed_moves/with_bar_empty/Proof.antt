@@ -3,7 +3,7 @@ use mathlib.Core.Path.{sym}
 use native.Mathlib.Omega.{arith}
 use borrow.Author.Needs.{needs}
 use Rattle.rules.specs.Ends.{both, mixed}
-use Rattle.rules.proofs.Dice.{Die}
+use Rattle.dice.specs.Dice.{Die}
 use Rattle.rules.proofs.Repeats.{both-free}
 use Rattle.moves.specs.Points.{Masked}
 use Rattle.moves.specs.Seconds.{oneDie}

@@ -3,7 +3,7 @@
 use native.Mathlib.Omega.{arith}
 use borrow.Author.Needs.{needs}
 use Rattle.rules.specs.Ends.{both, mixed}
-use Rattle.rules.proofs.Dice.{Die}
+use Rattle.dice.specs.Dice.{Die}
 use Rattle.moves.specs.Seconds.{oneDie}
 use Rattle.moves.proofs.Entering.{both-but, enter-few}
 use Rattle.moves.proofs.Passing.{passed-is, passed-append, passed-some, passed-else}
