@@ -34,8 +34,8 @@ enum munchalep_refusal {
     MUNCHALEP_NOT_REFUSED = 0,
 
     /* Boards. */
-    MUNCHALEP_X_OVER_15 = 1,          /* x has more than 15 checkers, its bar counted */
-    MUNCHALEP_O_OVER_15 = 2,          /* o has more than 15 checkers, its bar counted */
+    MUNCHALEP_X_OVER_15 = 1,          /* x has more than 15 checkers, every positive entry counted */
+    MUNCHALEP_O_OVER_15 = 2,          /* o has more than 15 checkers, every negative entry counted */
     MUNCHALEP_X_BAR_NEGATIVE = 3,     /* entry 25, x's bar, is negative */
     MUNCHALEP_O_BAR_POSITIVE = 4,     /* entry 0, o's bar, is positive */
     MUNCHALEP_FINISHED = 5,           /* a side has all 15 off: no play, no card from here */
@@ -77,11 +77,11 @@ enum munchalep_outcome {
     MUNCHALEP_CONTACT = 0,     /* unfinished, and the sides can still meet */
     MUNCHALEP_RACE = 1,        /* unfinished, and they are past each other */
     MUNCHALEP_WIN_NORMAL = 2,  /* x has all off, and o at least one */
-    MUNCHALEP_WIN_GAMMON = 3,  /* x has all off, and o none */
-    MUNCHALEP_WIN_BG = 4,      /* the same, and o is on its bar or on 1 to 6 */
+    MUNCHALEP_WIN_GAMMON = 3,  /* x has all off, o none, and no o is on its bar or on 1 to 6 */
+    MUNCHALEP_WIN_BG = 4,      /* x has all off, o none, and an o is on its bar or on 1 to 6 */
     MUNCHALEP_LOSE_NORMAL = 5, /* o has all off, and x at least one */
-    MUNCHALEP_LOSE_GAMMON = 6, /* o has all off, and x none */
-    MUNCHALEP_LOSE_BG = 7      /* the same, and x is on its bar or on 19 to 24 */
+    MUNCHALEP_LOSE_GAMMON = 6, /* o has all off, x none, and no x is on its bar or on 19 to 24 */
+    MUNCHALEP_LOSE_BG = 7      /* o has all off, x none, and an x is on its bar or on 19 to 24 */
 };
 
 /* The refusal number of an answer, 0 where nothing is refused. */
