@@ -1,9 +1,8 @@
 -- Laws of the generator, each file by what it is about: ends as bytes, loops that pass ends, masks and the origins that they hold, a
 -- double's levels, a mixed roll's halves, entering, and what the entries answer.
 pub mod Images
-pub mod PassingSteps
-pub mod Remaining
 pub mod Passing
+pub mod PassingSteps
 pub mod BoardMasks
 pub mod OffMasks
 pub mod StepMasks

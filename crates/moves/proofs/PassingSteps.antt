@@ -1,4 +1,5 @@
--- Ends passed one after another through a window: what a loop over a mask's points keeps, in either direction, and ends of which none is seen.
+-- Single ends passed through a window: one end, the ends after a step from each point of a mask, in either direction, and ends of which
+-- none is seen.
 -- Assumes nothing.
 use mathlib.Core.Path.{_≡_, refl, sym, ap, _∙_}
 use mathlib.Core.List.{List, [], _∷_, map}
@@ -8,10 +9,11 @@ use lib.IntN.{ℤ}
 use lib.ListN.{length, length-map}
 use lib.Seq.{sets}
 use Rattle.ints.specs.Lent.{store, written}
-use Rattle.ints.proofs.Lent.{length-store, store-in, written-step}
+use Rattle.ints.proofs.Lent.{store-in}
 use Rattle.ints.proofs.Masks.{First}
 use Rattle.position.specs.Step.{stepped}
 use Rattle.moves.specs.Bytes.{image, steps, Passed}
+use Rattle.moves.proofs.Passing.{Remain, remain-all, remain-part, remain-none}
 
 -- ---- one end
 
@@ -26,40 +28,38 @@ passed-one b o new from start h = record { number = omega arith; lent = h }
 
 -- ---- the ends after a step from each point of a mask
 
--- passing what is left, the steps from the points of `rest`, does what passing those from the points of m did at the start
+-- the steps from the points of `rest` are still to be passed, of those from the points of m
 pub record Left (points : ℕ → List ℕ) (b : List ℤ) (die m : ℕ) (o₀ : List ℕ) (from start : ℕ) (o : List ℕ) (n rest : ℕ) : Type 0 where
-  pub size : length o ≡ length o₀
   pub small : rest < 2 ^ 25
-  pub number : n + length (points rest) ≡ start + length (points m)
-  pub lent : written 26 o from n (map image (steps b die (points rest))) ≡ written 26 o₀ from start (map image (steps b die (points m)))
+  pub remain : Remain (steps b die (points m)) o₀ from start (steps b die (points rest)) o n
+
+-- a step has one end
+pub left-number : {points : ℕ → List ℕ} {b : List ℤ} {die m : ℕ} {o₀ : List ℕ} {from start : ℕ} {o : List ℕ} {n rest : ℕ}
+    → Left points b die m o₀ from start o n rest → n + length (points rest) ≡ start + length (points m)
+left-number {points} {b} {die} {m} {rest = rest} v =
+    omega (arith, v .remain .number, length-map (points rest) (λ p. stepped b p die), length-map (points m) (λ p. stepped b p die))
 
 module _ (points : ℕ → List ℕ) (b : List ℤ) (die m : ℕ) (o₀ : List ℕ) (from start : ℕ) where
   pub left-all : m < 2 ^ 25 → Left points b die m o₀ from start o₀ start m
-  left-all h = record { size = refl; small = h; number = refl; lent = refl }
+  left-all h = record { small = h; remain = remain-all (steps b die (points m)) (steps b die (points m)) o₀ from start refl }
 
   -- a turn passes the end from the first point
   pub left-less : (o new : List ℕ) (n rest q : ℕ) → First 32 25 rest q points → new ≡ store 26 o from n (image (stepped b q die))
       → Left points b die m o₀ from start o n rest → Left points b die m o₀ from start new (n + 1) (rest - (1 * 2 ^ q) % 2 ^ 32)
   left-less o new n rest q f e v =
       let s = v .small in
+      let r : Remain (steps b die (points m)) o₀ from start (steps b die (q ∷ points (rest - (1 * 2 ^ q) % 2 ^ 32))) o n = rw (f .parts) at (v .remain) in
       record {
-        size = ap length e ∙ length-store 26 o from n (image (stepped b q die)) ∙ v .size;
         small = omega arith;
-        number = omega (arith, v .number, ap length (f .parts));
-        lent =
-            written-step 26 o new from n (image (stepped b q die)) (map image (steps b die (points (rest - (1 * 2 ^ q) % 2 ^ 32)))) e
-            ∙ ap (λ (ps : List ℕ). written 26 o from n (map image (steps b die ps))) (sym (f .parts)) ∙ v .lent;
+        remain =
+            remain-part (stepped b q die ∷ []) (steps b die (points (rest - (1 * 2 ^ q) % 2 ^ 32))) r (passed-one (stepped b q die) o new from n e);
       }
 
   pub left-none : (o : List ℕ) (n rest : ℕ) → rest ≡ 0 → points 0 ≡ [] → Left points b die m o₀ from start o n rest
       → Passed (steps b die (points m)) o₀ from start n o
-  unfolding written
   left-none o n rest e none v =
       let z : points rest ≡ [] = ap points e ∙ none in
-      record {
-        number = omega (arith, rw z at (v .number), length-map (points m) (λ p. stepped b p die));
-        lent = rw z at (v .lent);
-      }
+      remain-none (rw z at (v .remain))
 
 -- ---- ends outside the window
 

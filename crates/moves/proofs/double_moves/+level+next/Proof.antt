@@ -19,7 +19,7 @@ use Rattle.rules.specs.Ends.{doubles}
 use Rattle.rules.proofs.Two.{can-good}
 use Rattle.moves.specs.Bytes.{over}
 use Rattle.moves.specs.Points.{Masked, originsMask}
-use Rattle.moves.proofs.Remaining.{Remain, remain-all, remain-part, remain-fits, remain-first, remain-over, rest-fewer}
+use Rattle.moves.proofs.Passing.{Remain, remain-all, remain-part, remain-fits, remain-first, remain-over, rest-fewer}
 use Rattle.moves.proofs.Doubling.{branch, Level, level-can, level-masked, level-over, level-last, level-number}
 use Rattle.moves.proofs.double_moves.level.Reads as level
 use Rattle.moves.proofs.double_moves.level.Kinds as level-kinds

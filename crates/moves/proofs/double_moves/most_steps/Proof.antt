@@ -7,7 +7,7 @@ use borrow.Author.Needs.{needs}
 use lib.ListN.{length}
 use Rattle.ints.proofs.Signed.{small-more}
 use Rattle.rules.specs.Ends.{doubles, most}
-use Rattle.moves.proofs.Remaining.{passed-none}
+use Rattle.moves.proofs.Passing.{none-passed}
 use Rattle.moves.proofs.Doubling.{length-points, length-none, most-made, most-fewer}
 use Rattle.moves.proofs.double_moves.most_steps.Statement.{statement}
 use Rattle.moves.proofs.double_moves.most_steps.Tie as tie
@@ -79,7 +79,7 @@ loop-again c =
     let b = s .args .b .now in
     let n = v .level .ensures .number in
     let none = length-none (doubles d k 24 b) (omega arith) in (
-      passed-none (doubles d k 24 b) (l .loop .out) (s .args .from) 0 _ _ none (v .level .ensures) ∙ l .loop .inv .0,
+      none-passed (doubles d k 24 b) (l .loop .out) (s .args .from) 0 _ _ none (v .level .ensures) ∙ l .loop .inv .0,
       omega arith,
       l .loop .inv .2 ∙ most-fewer d b (s .pre .2) k (omega arith) none,
     )

@@ -7,7 +7,7 @@ use Rattle.ints.specs.Bits.{bit}
 use Rattle.ints.specs.Masks.{those}
 use Rattle.ints.proofs.Masks.{First, lowest, those-zero}
 use Rattle.ints.proofs.Signed.{small-more}
-use Rattle.moves.proofs.PassingSteps.{Left, left-all, left-less, left-none}
+use Rattle.moves.proofs.PassingSteps.{Left, left-all, left-less, left-none, left-number}
 use Rattle.moves.proofs.window.up.Statement.{statement}
 use Rattle.moves.proofs.window.up.Tie as tie
 
@@ -43,7 +43,7 @@ put-step-requires c κs =
     (s .before .before .pre .0, (s .before .before .pre .1 .3, omega arith, omega arith, s .switched-bytes .ensures))
 
 add-n : tie.Need-add-n Inv-loop μ-loop
-add-n c = let l = c .before .before .before .before .before .before .before .loop in omega (arith, l .inv .number)
+add-n c = let l = c .before .before .before .before .before .before .before .loop in omega (arith, left-number (l .inv))
 
 cast-rest : tie.Need-cast-rest Inv-loop μ-loop
 cast-rest c = let f = first (c .before .before .before .before .before) in omega arith
@@ -66,7 +66,7 @@ loop-again c =
     (c .before .before .put-step .ensures) (l .inv)
 
 same-length : tie.Need-same-length Inv-loop μ-loop
-same-length c = c .before .loop .inv .size
+same-length c = c .before .loop .inv .remain .size
 
 returns : tie.Need-returns Inv-loop μ-loop
 returns c =
