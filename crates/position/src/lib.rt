@@ -81,7 +81,7 @@ pub fn try_move_single_checker(b: [i8; 26], from: usize, die: usize) -> BoardAns
 }
 
 // A refusal's answer: its number and nothing else.
-fn refused(n: u8) -> BoardAnswer
+pub fn refused(n: u8) -> BoardAnswer
     ensures { λ r. ⌜ (r .refused ≡ n) × (r .board ≡ noBoard) ⌝ }
 {
     let none = [0i8; 26];
@@ -91,7 +91,7 @@ fn refused(n: u8) -> BoardAnswer
     }
 }
 
-fn answered(b: [i8; 26]) -> BoardAnswer
+pub fn answered(b: [i8; 26]) -> BoardAnswer
     ensures { λ r. ⌜ (r .refused ≡ 0) × (r .board ≡ b) ⌝ }
 {
     BoardAnswer {

@@ -1,0 +1,2 @@
+-- Laws of the key, each file by what it is about.
+pub mod Runs
