@@ -1,2 +1,5 @@
 -- Laws of the key, each file by what it is about.
 pub mod Runs
+pub mod Counts
+pub mod Sides
+pub mod Answers

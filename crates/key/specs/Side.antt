@@ -8,10 +8,14 @@ use Rattle.ints.specs.Sums.{total}
 use Rattle.position.specs.Board.{checkers}
 use Rattle.key.specs.Key.{countsOf, restOf}
 
--- whether the 25 runs from bit `from` on give too many checkers; if not, their checkers, and the place of the bits after them
-pub record IsSide (bits : List Bool) (from : ℕ) (many : Bool) (end : ℕ) (counts : List ℕ) : Type 0 where
-  pub over : many ≡ true → checkers < total (countsOf 25 (drop from bits))
-  pub most : many ≡ false → total (countsOf 25 (drop from bits)) ≤ checkers
-  pub are : many ≡ false → counts ≡ 0 ∷ countsOf 25 (drop from bits)
-  pub near : many ≡ false → end ≤ from + 40
-  pub after : many ≡ false → drop end bits ≡ restOf 25 (drop from bits)
+-- the 25 runs from bit `from` on give at most fifteen checkers; what they give, and where the bits after them begin
+pub record Counted (bits : List Bool) (from end : ℕ) (counts : List ℕ) : Type 0 where
+  pub most : total (countsOf 25 (drop from bits)) ≤ checkers
+  pub are : counts ≡ 0 ∷ countsOf 25 (drop from bits)
+  pub near : end ≤ from + 40
+  pub after : drop end bits ≡ restOf 25 (drop from bits)
+
+-- the runs give too many checkers, or are counted
+abbrev pub IsSide : List Bool → ℕ → Bool → ℕ → List ℕ → Type 0
+IsSide bits from true end counts = checkers < total (countsOf 25 (drop from bits))
+IsSide bits from false end counts = Counted bits from end counts

@@ -47,11 +47,11 @@ pub fn encode(b: [i8; 26]) -> KeyAnswer
 pub fn decode(k: [u8; 10]) -> BoardAnswer
     ensures { λ r. ⌜ r ≡ boardOfKeyAnswer checkers k ⌝ }
 {
-    let o = read_side(&k, 0);
+    let o = read_side(k, 0);
     if o.many {
         return position::refused(15);
     }
-    let x = read_side(&k, o.end);
+    let x = read_side(k, o.end);
     if x.many {
         return position::refused(16);
     }
@@ -60,7 +60,7 @@ pub fn decode(k: [u8; 10]) -> BoardAnswer
     if shared(&on_x, &on_o) {
         return position::refused(17);
     }
-    if set_from(&k, x.end) {
+    if set_from(k, x.end) {
         return position::refused(18);
     }
     position::answered(board_from(&on_x, &on_o))
@@ -96,7 +96,7 @@ fn count(b: &[i8; 26], j: usize) -> usize
 
 // Sets n bits from bit `from` on.
 fn set_ones(key: &mut [u8; 10], from: usize, n: usize)
-    requires { ⌜ from + n ≤ 80 ⌝ }
+    requires { ⌜ (from + n ≤ 80) × Bytes (now key) ⌝ }
     ensures { λ _. ⌜ (bitsOf (now (key .exit)) ≡ merged (bitsOf (now (key .entry))) from (replicate n true)) × Bytes (now (key .exit)) ⌝ }
 {
     let mut k = 0;
@@ -107,16 +107,16 @@ fn set_ones(key: &mut [u8; 10], from: usize, n: usize)
 }
 
 // One side's 25 runs, the first of which begins at bit `from`.
-fn read_side(key: &[u8; 10], from: usize) -> Side
+fn read_side(key: [u8; 10], from: usize) -> Side
     requires { ⌜ from ≤ 40 ⌝ }
-    ensures { λ r. ⌜ IsSide (bitsOf (now (key .entry))) from (r .many) (r .end) (r .counts) ⌝ }
+    ensures { λ r. ⌜ IsSide (bitsOf key) from (r .many) (r .end) (r .counts) ⌝ }
 {
     let mut counts = [0u8; 26];
     let mut at = from;
     let mut left = 16;
     let mut q = 1;
     while q < 26 {
-        let n = ones_from(key, at, left);
+        let n = ones_from(&key, at, left);
         if n == left {
             return Side {
                 many: true,
@@ -152,13 +152,13 @@ fn ones_from(key: &[u8; 10], from: usize, most: usize) -> usize
 }
 
 // Whether a bit is set from bit `from` on.
-fn set_from(key: &[u8; 10], from: usize) -> bool
+fn set_from(key: [u8; 10], from: usize) -> bool
     requires { ⌜ from ≤ 80 ⌝ }
-    ensures { λ r. ⌜ r ≡ some (drop from (bitsOf (now (key .entry)))) ⌝ }
+    ensures { λ r. ⌜ r ≡ some (drop from (bitsOf key)) ⌝ }
 {
     let mut k = from;
     while k < 80 {
-        if ints::bit(key, k) {
+        if ints::bit(&key, k) {
             return true;
         }
         k += 1;

@@ -1,50 +1,52 @@
+-- `key::count` meets its contract: run j is a point of o's below 25, and one of x's from 25 on.
+use mathlib.Core.Path.{_≡_, sym, _∙_}
+use Prim.Native.Nat.{_-_}
+use native.Mathlib.Omega.{arith}
+use mir.Syntax.{w8}
+use Rattle.ints.proofs.Signed.{held-is}
+use Rattle.position.specs.Board.{entry}
+use Rattle.key.proofs.Counts.{count-o, count-x}
 use borrow.Author.Needs.{needs}
 use Rattle.key.proofs.count.Statement.{statement}
 use Rattle.key.proofs.count.Tie as tie
-use Rattle.key.proofs.count.Reads as reads
-use Rattle.key.proofs.count.Lts as lts
-use Rattle.ints.proofs.neg_part.Reads as neg-part-reads
-use Rattle.ints.proofs.pos_part.Reads as pos-part-reads
 
--- src/lib.rt:92:33
 sub-neg-part : tie.Need-sub-neg-part
 sub-neg-part c = search needs
 
--- src/lib.rt:92:31
 element-copy-out-neg-part : tie.Need-element-copy-out-neg-part
 element-copy-out-neg-part c = search needs
 
--- src/lib.rt:92:16
 neg-part-requires : tie.Need-neg-part-requires
 neg-part-requires c κs = search needs
 
--- src/lib.rt:92:16
 cast-result : tie.Need-cast-result
 cast-result c = search needs
 
--- src/lib.rt:92:9
 returns : tie.Need-returns
-returns c = ?
+returns c =
+    let s = c .before .before .before in
+    let b = s .args .b .now in
+    let j = s .args .j in
+    (rw (held-is w8 (entry b (24 - j)) (c .before .neg-part-arg .given)) at (c .neg-part .ensures)) ∙ sym (count-o b j (omega arith))
 
--- src/lib.rt:94:22
 sub-pos-part : tie.Need-sub-pos-part
 sub-pos-part c = search needs
 
--- src/lib.rt:94:20
 element-copy-out-pos-part : tie.Need-element-copy-out-pos-part
 element-copy-out-pos-part c = search needs
 
--- src/lib.rt:94:5
 pos-part-requires : tie.Need-pos-part-requires
 pos-part-requires c κs = search needs
 
--- src/lib.rt:94:5
 cast-result-2 : tie.Need-cast-result-2
 cast-result-2 c = search needs
 
--- src/lib.rt:87:1
 returns-2 : tie.Need-returns-2
-returns-2 c = ?
+returns-2 c =
+    let s = c .before .before .before in
+    let b = s .args .b .now in
+    let j = s .args .j in
+    (rw (held-is w8 (entry b (j - 24)) (c .before .pos-part-arg .given)) at (c .pos-part .ensures)) ∙ sym (count-x b j (omega arith) (omega arith))
 
 pub count-spec : {M : Type 1} → statement M
 count-spec =

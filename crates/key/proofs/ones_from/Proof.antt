@@ -1,46 +1,52 @@
+-- `key::ones_from` meets its contract. The loop's invariant: the n bits passed are 1s.
+use mathlib.Core.Path.{_≡_, sym, _∙_}
+use Prim.Native.Nat.{ℕ, suc, _+_, _-_, _≤_}
+use native.Mathlib.Omega.{arith}
+use borrow.Author.Tests.{not-true, not-false}
+use lib.ListN.{drop}
+use Rattle.ints.specs.Bits.{bitsOf}
+use Rattle.key.specs.Key.{lead}
+use Rattle.key.proofs.Runs.{lead-no, lead-yes}
 use Rattle.key.proofs.ones_from.Statement.{statement}
 use Rattle.key.proofs.ones_from.Tie as tie
-use Rattle.key.proofs.ones_from.Reads as reads
-use Rattle.key.proofs.ones_from.Lts as lts
-use Rattle.ints.proofs.bit.Reads as bit-reads
 
 abbrev Inv-loop : tie.InvT-loop
-Inv-loop key from most n₀ n = ?
+Inv-loop key from most n₀ n = (n ≤ most) × (lead (drop from (bitsOf key)) ≡ n + lead (drop (from + n) (bitsOf key)))
 
 abbrev μ-loop : tie.MeasureT-loop
-μ-loop key from most n₀ n = ?
+μ-loop key from most n₀ n = most - n
 
--- src/lib.rt:145:5
 loop-holds : tie.Need-loop-holds Inv-loop μ-loop
-loop-holds c = ?
+loop-holds c = (omega arith, let e : c .args .from + 0 ≡ c .args .from = omega arith in rw e (omega arith))
 
--- src/lib.rt:146:28
 add-bit : tie.Need-add-bit Inv-loop μ-loop
-add-bit c = ?
+add-bit c = omega arith
 
--- src/lib.rt:146:13
 bit-requires : tie.Need-bit-requires Inv-loop μ-loop
-bit-requires c κs = ?
+bit-requires c κs = omega arith
 
--- src/lib.rt:147:13
 returns : tie.Need-returns Inv-loop μ-loop
-returns c = ?
+returns c =
+    let s = c .before .before .before .before .before in
+    let l = c .before .before .before .before .loop in
+    omega (arith, l .inv .1, lead-no (bitsOf (s .args .key .now)) (s .args .from + l .n) (sym (c .before .bit .ensures) ∙ not-true (c .before .bit .result) (c .if1 .taken)))
 
--- src/lib.rt:149:9
 add-n : tie.Need-add-n Inv-loop μ-loop
-add-n c = ?
+add-n c = omega arith
 
--- src/lib.rt:145:5
 loop-less : tie.Need-loop-less Inv-loop μ-loop
-loop-less c = ?
+loop-less c = omega arith
 
--- src/lib.rt:145:5
 loop-again : tie.Need-loop-again Inv-loop μ-loop
-loop-again c = ?
+loop-again c =
+    let s = c .before .before .before .before .before in
+    let l = c .before .before .before .before .loop in
+    let e : suc (s .args .from + l .n) ≡ s .args .from + (l .n + 1) = omega arith in
+    let y = lead-yes (bitsOf (s .args .key .now)) (s .args .from + l .n) (sym (c .before .bit .ensures) ∙ not-false (c .before .bit .result) (c .if1 .left)) in
+    (omega arith, omega (arith, l .inv .1, rw e at y))
 
--- src/lib.rt:140:1
 returns-2 : tie.Need-returns-2 Inv-loop μ-loop
-returns-2 c = ?
+returns-2 c = omega arith
 
 pub ones-from-spec : {M : Type 1} → statement M
 ones-from-spec =
