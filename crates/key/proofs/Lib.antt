@@ -3,3 +3,7 @@ pub mod Runs
 pub mod Counts
 pub mod Sides
 pub mod Answers
+pub mod ReadBack
+pub mod AcceptedKeys
+pub mod Unique
+pub mod Tried
