@@ -18,7 +18,7 @@ use Rattle.ints.proofs.Tests.{lt-or-le}
 use Rattle.ints.proofs.Signed.{apart, less}
 use Rattle.ints.proofs.Bits.{length-bits, bytes-bits, none-at, none-zeros}
 use Rattle.ints.proofs.Sums.{length-values, getD-values, table-at}
-use Rattle.position.specs.Board.{Accepted, entry, xs, os}
+use Rattle.position.specs.Board.{Accepted, xs, os}
 use Rattle.key.specs.Key.{counts, runs, keyBits, keyOf, countsOf, restOf, oSide, xSide, meets, boardFrom, boardOf, bitsRefusal, keyRefusal}
 use Rattle.key.proofs.Runs.{runs-counts, runs-append, length-runs, length-counts}
 use Rattle.key.proofs.Counts.{oRuns, xRuns, length-o, length-x, total-o, total-x}

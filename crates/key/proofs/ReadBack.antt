@@ -1,8 +1,8 @@
 -- What was written is read: the key of an accepted board is not refused and gives the board back, so different boards have different
 -- keys. Over any number n of checkers a side up to fifteen. Assumes nothing.
 use mathlib.Core.Path.{_≡_, refl, sym, ap, ap₂, _∙_}
-use mathlib.Core.Bool.{Bool, true, false, _&&_, and-false}
-use mathlib.Core.List.{List, _∷_, _++_, append-assoc}
+use mathlib.Core.Bool.{Bool, false, _&&_, and-false}
+use mathlib.Core.List.{List, _++_, append-assoc}
 use Prim.Native.Nat.{ℕ, zero, suc, _+_, _-_, _<_, _≤_}
 use native.Mathlib.Omega.{arith}
 use lib.Dec.{ltb}
@@ -14,8 +14,7 @@ use Rattle.ints.specs.Sums.{values, total}
 use Rattle.ints.proofs.Signed.{apart, less, same-parts}
 use Rattle.ints.proofs.Bits.{bits-bytes, none-if, zeros-none}
 use Rattle.ints.proofs.Sums.{length-values, getD-values, table-at, table-is}
-use Rattle.position.specs.Board.{Accepted, entry, xs, os, xAll, oAll}
-use Rattle.position.specs.declared.BoardAnswer.{BoardAnswer}
+use Rattle.position.specs.Board.{Accepted, entry, xs, os}
 use Rattle.position.proofs.Boards.{accepted-unrefused}
 use Rattle.key.specs.Key.{counts, runs, keyBits, keyOf, countsOf, restOf, oSide, xSide, meets, boardFrom, boardOf, bitsRefusal, keyRefusal, keyAnswer, boardOfKeyAnswer}
 use Rattle.key.specs.declared.KeyAnswer.{KeyAnswer}

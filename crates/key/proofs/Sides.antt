@@ -1,9 +1,9 @@
 -- Reading one side: 25 runs, at most fifteen checkers. The reader's state at its point q is told by what is left to read.
 -- Assumes nothing.
 use mathlib.Core.Path.{_≡_, refl, sym, ap, _∙_}
-use mathlib.Core.Bool.{Bool, true, false}
+use mathlib.Core.Bool.{Bool}
 use mathlib.Core.List.{List, _∷_, append-nil}
-use Prim.Native.Nat.{ℕ, zero, suc, _+_, _-_, min, _<_, _≤_}
+use Prim.Native.Nat.{ℕ, suc, _+_, _-_, min, _<_, _≤_}
 use native.Mathlib.Numerals.{add-one}
 use native.Mathlib.Omega.{arith}
 use lib.ListN.{length, set, drop, replicate, length-drop}

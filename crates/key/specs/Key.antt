@@ -38,7 +38,7 @@ keyAnswer n b = record { refused = refusalOf n b; key = cond (eqb (refusalOf n b
 
 -- ---- reading
 
--- "Key": the checkers of the run that the bits begin with are its 1s.
+-- "Key": the checkers of the run that the bits begin with are its 1s; where the bits end, it ends.
 unfoldable pub lead : List Bool → ℕ
 lead [] = 0
 lead (false ∷ l) = 0
@@ -81,11 +81,11 @@ bitsRefusal n l =
     (cond (some (values (meets (xSide l) (oSide l)) 0 26)) 17
     (cond (some (restOf 25 (restOf 25 l))) 18 0)))
 
--- "Key": bit k of the key is bit k % 8 of byte k / 8.
+-- "Key": a key is refused by its bits, of which bit k is bit k % 8 of byte k / 8.
 unfoldable pub keyRefusal : ℕ → List ℕ → ℕ
 keyRefusal n k = bitsRefusal n (bitsOf k)
 
--- "The board": x's checkers count up, o's down.
+-- "The board": the entry of a point is x's checkers there less o's, whose own point 25 - p it is.
 unfoldable pub boardFrom : List ℕ → List ℕ → List ℤ
 boardFrom x o = values (λ p. pos (getD x p 0) -ℤ pos (getD o (25 - p) 0)) 0 26
 

@@ -180,6 +180,7 @@ fn shared(x: &[u8; 26], o: &[u8; 26]) -> bool
     false
 }
 
+// Whether a point has checkers of both sides.
 fn both(x: u8, o: u8) -> bool
     ensures { λ r. ⌜ r ≡ (ltb 0 x && ltb 0 o) ⌝ }
 {

@@ -91,6 +91,7 @@ pub fn refused(n: u8) -> BoardAnswer
     }
 }
 
+// A board's answer, without a refusal.
 pub fn answered(b: [i8; 26]) -> BoardAnswer
     ensures { λ r. ⌜ (r .refused ≡ 0) × (r .board ≡ b) ⌝ }
 {

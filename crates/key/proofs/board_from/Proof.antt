@@ -3,7 +3,7 @@ use mathlib.Core.Path.{_≡_, refl, _∙_}
 use Prim.Native.Nat.{ℕ, _-_, _≤_, _<_}
 use native.Mathlib.Omega.{arith}
 use borrow.Author.Count.{below-more}
-use lib.IntN.{ℤ, pos, _-ℤ_}
+use lib.IntN.{pos, _-ℤ_}
 use lib.ListN.{length, getD, set, length-set}
 use lib.Seq.{getD-set-same, getD-set-other}
 use mir.Syntax.{w8}
@@ -55,8 +55,8 @@ loop-again c =
       omega arith,
       length-set (l .b) (l .p) z ∙ l .inv .1,
       below-more (λ k. getD (set (l .b) (l .p) z) k (pos 0) ≡ pos (getD (s .args .x .now) k 0) -ℤ pos (getD (s .args .o .now) (25 - k) 0)) (l .p)
-      (λ k h. getD-set-other (l .b) (l .p) k z (pos 0) (λ q. omega arith) ∙ l .inv .2 k h)
-      (getD-set-same (l .b) (l .p) z (pos 0) (omega arith) ∙ c .entry .ensures),
+          (λ k h. getD-set-other (l .b) (l .p) k z (pos 0) (λ q. omega arith) ∙ l .inv .2 k h)
+          (getD-set-same (l .b) (l .p) z (pos 0) (omega arith) ∙ c .entry .ensures),
     )
 
 returns : tie.Need-returns Inv-loop μ-loop

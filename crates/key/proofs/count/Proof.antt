@@ -1,5 +1,5 @@
 -- `key::count` meets its contract: run j is a point of o's below 25, and one of x's from 25 on.
-use mathlib.Core.Path.{_≡_, sym, _∙_}
+use mathlib.Core.Path.{sym, _∙_}
 use Prim.Native.Nat.{_-_}
 use native.Mathlib.Omega.{arith}
 use mir.Syntax.{w8}

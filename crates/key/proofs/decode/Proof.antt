@@ -1,14 +1,14 @@
 -- `key::decode` meets its contract: the tests are the definition's, in their order.
 use mathlib.Core.Path.{_≡_, sym, ap, ap₂, _∙_}
-use mathlib.Core.Bool.{Bool, true, false}
+use mathlib.Core.Bool.{Bool, false}
 use mathlib.Core.List.{List}
-use Prim.Native.Nat.{ℕ, _<_}
+use Prim.Native.Nat.{ℕ}
 use native.Mathlib.Omega.{arith}
 use Rattle.ints.specs.Bits.{bitsOf, some}
-use Rattle.ints.specs.Sums.{values, total}
+use Rattle.ints.specs.Sums.{values}
 use Rattle.ints.proofs.Sums.{part-total}
 use Rattle.position.specs.Board.{checkers}
-use Rattle.key.specs.Key.{countsOf, oSide, xSide, meets, boardFrom, boardOf}
+use Rattle.key.specs.Key.{oSide, xSide, meets, boardFrom, boardOf}
 use Rattle.key.specs.Side.{Counted}
 use Rattle.key.proofs.Sides.{Both, both-read, few-o, over-o, over-x}
 use Rattle.key.proofs.Answers.{refusal-15, refusal-16, refusal-17, refusal-18, refusal-0, board-refused, board-answered}

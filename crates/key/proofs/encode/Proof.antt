@@ -1,5 +1,5 @@
 -- `key::encode` meets its contract: the refusal of the entries, or the key.
-use mathlib.Core.Path.{_≡_, sym, _∙_}
+use mathlib.Core.Path.{sym, _∙_}
 use Rattle.position.specs.Board.{checkers}
 use Rattle.key.proofs.Answers.{key-refused, key-answered}
 use borrow.Author.Needs.{needs}

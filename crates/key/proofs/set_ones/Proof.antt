@@ -1,7 +1,7 @@
 -- `key::set_ones` meets its contract. The loop's invariant: with the n - k 1s that are left the bits are what they are to be.
-use mathlib.Core.Path.{_≡_, refl, sym, ap, _∙_}
+use mathlib.Core.Path.{_≡_}
 use mathlib.Core.Bool.{true}
-use Prim.Native.Nat.{ℕ, suc, _+_, _-_, _≤_}
+use Prim.Native.Nat.{suc, _+_, _-_, _≤_}
 use native.Mathlib.Omega.{arith}
 use lib.ListN.{replicate}
 use Rattle.ints.specs.Bits.{bitsOf, merged, Bytes}

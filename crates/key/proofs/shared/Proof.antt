@@ -1,11 +1,10 @@
 -- `key::shared` meets its contract. The loop's invariant: a point on which both sides stand is one from p on.
 use mathlib.Core.Path.{_≡_, refl, sym, _∙_}
-use mathlib.Core.Bool.{Bool, false}
-use mathlib.Core.List.{List}
-use Prim.Native.Nat.{ℕ, _-_, _≤_, _<_}
+use mathlib.Core.Bool.{false}
+use Prim.Native.Nat.{_-_, _≤_}
 use native.Mathlib.Numerals.{add-one}
 use native.Mathlib.Omega.{arith}
-use lib.ListN.{getD, drop}
+use lib.ListN.{drop}
 use Rattle.ints.specs.Bits.{some}
 use Rattle.ints.specs.Sums.{values}
 use Rattle.ints.proofs.Bits.{some-no, some-yes, some-end}
@@ -56,7 +55,7 @@ loop-again c =
     let f = meets (s .args .x .now) (s .args .o .now) in (
       omega arith,
       rw add-one
-      (l .inv .1 ∙ some-no (values f 0 26) (l .p) (table-at f 26 (l .p) false (omega arith) ∙ sym (c .before .both .ensures) ∙ c .if1 .left)),
+          (l .inv .1 ∙ some-no (values f 0 26) (l .p) (table-at f 26 (l .p) false (omega arith) ∙ sym (c .before .both .ensures) ∙ c .if1 .left)),
     )
 
 returns-2 : tie.Need-returns-2 Inv-loop μ-loop

@@ -2,7 +2,7 @@
 use mathlib.Core.Path.{_≡_, refl, sym, ap, _∙_}
 use mathlib.Core.Bool.{true}
 use mathlib.Core.List.{List, _∷_}
-use Prim.Native.Nat.{ℕ, suc, _+_, _-_, _≤_, _<_}
+use Prim.Native.Nat.{ℕ, suc, _+_, _-_, _≤_}
 use native.Mathlib.Numerals.{add-one}
 use native.Mathlib.Omega.{arith}
 use lib.IntN.{ℤ}
@@ -80,9 +80,9 @@ loop-again c =
       omega (arith, l .inv .1, length-bits (c .set-ones .last .0), ap length e, length-merged (bitsOf (l .key)) (l .at) (replicate n true), length-bits (l .key)),
       rw (add-one (l .j)) (omega arith),
       rw (add-one (l .j), e)
-      (sym (put-run (bitsOf (l .key)) (l .at) n (drop (suc (l .j)) (counts b)))
-      ∙ ap (λ (r : List ℕ). merged (bitsOf (l .key)) (l .at) (runs r)) (sym (left (c .before)))
-      ∙ l .inv .3),
+          (sym (put-run (bitsOf (l .key)) (l .at) n (drop (suc (l .j)) (counts b)))
+          ∙ ap (λ (r : List ℕ). merged (bitsOf (l .key)) (l .at) (runs r)) (sym (left (c .before)))
+          ∙ l .inv .3),
       c .set-ones .ensures .1,
     )
 
