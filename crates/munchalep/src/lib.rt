@@ -46,12 +46,12 @@ pub extern "C" fn munchalep_key(board: &[i8; 26], key: &mut [u8; 10]) -> u64
     ensures { λ r. ⌜ PutKey (keyAnswer checkers (now (board .entry))) (now (key .entry)) r (now (key .exit)) ⌝ }
 {
     let answer = key::encode(*board);
-    let refused = answer.refused;
-    if refused != 0 {
-        return refused as u64;
+    let number = answer.refused;
+    if number != 0 {
+        return number as u64;
     }
-    let ten = answer.key;
-    *key = ten;
+    let bytes = answer.key;
+    *key = bytes;
     0
 }
 
