@@ -18,7 +18,7 @@ use Rattle.key.proofs.Runs.{length-counts, rest-drop}
 pub record Reading (bits : List Bool) (from : ℕ) (cs : List ℕ) (at left q : ℕ) : Type 0 where
   pub low : 1 ≤ q
   pub high : q ≤ 26
-  pub some : 0 < left
+  pub more : 0 < left
   pub few : left ≤ 16
   pub place : at + left ≡ from + 15 + q
   pub fill : sets cs q (countsOf (26 - q) (drop at bits)) ≡ 0 ∷ countsOf 25 (drop from bits)
@@ -32,7 +32,7 @@ start bits from =
     record {
       low = omega arith;
       high = omega arith;
-      some = omega arith;
+      more = omega arith;
       few = omega arith;
       place = omega arith;
       fill = sets-eq l (replicate 26 0) 1 (omega arith) ∙ rw e (ap (λ (k : List ℕ). 0 ∷ k) (append-nil l));
@@ -77,7 +77,7 @@ module _ {bits : List Bool} {from : ℕ} {cs : List ℕ} {at left q : ℕ} (r : 
         record {
           low = omega arith;
           high = omega arith;
-          some = omega arith;
+          more = omega arith;
           few = omega arith;
           place = omega arith;
           fill = rw (c, ← t, add-one q) (sym (ap (sets cs q) (front ∙ ap (λ (k : ℕ). k ∷ countsOf (25 - q) (rest (drop at bits))) a)) ∙ r .fill);
@@ -92,7 +92,7 @@ module _ {bits : List Bool} {from : ℕ} {cs : List ℕ} {at left q : ℕ} (r : 
       let u = r .high in
       let e : 26 - q ≡ 0 = omega arith in
       let p = r .place in
-      let z = r .some in
+      let z = r .more in
       let s = rw e at (r .sum) in
       record { most = omega arith; are = rw e at (r .fill); near = omega arith; after = rw e at (r .after) }
 

@@ -106,7 +106,7 @@ fn set_ones(key: &mut [u8; 10], from: usize, n: usize)
     }
 }
 
-// One side's 25 runs, the first of which begins at bit `from`.
+// One side's 25 runs, the first of which begins at bit `from`. So many checkers as are left make a sixteenth, and end the reading.
 fn read_side(key: [u8; 10], from: usize) -> Side
     requires { ⌜ from ≤ 40 ⌝ }
     ensures { λ r. ⌜ IsSide (bitsOf key) from (r .many) (r .end) (r .counts) ⌝ }

@@ -34,7 +34,9 @@ module _ (c : tie.Else2) where
   meeting = sym (ap₂ (λ (x o : List ℕ). some (values (meets x o) 0 26)) (known .x-is) (known .o-is))
 
 -- past that test no point has both sides
-alone : (c : tie.Else3) → some (values (meets (xSide (bits (c .before .before .before .before .before .before))) (oSide (bits (c .before .before .before .before .before .before)))) 0 26) ≡ false
+alone : (c : tie.Else3)
+    → let l = bits (c .before .before .before .before .before .before) in
+    some (values (meets (xSide l) (oSide l)) 0 26) ≡ false
 alone c = meeting (c .before .before .before .before .before .before) ∙ sym (c .before .shared .ensures) ∙ c .if3 .left
 
 read-side-requires : tie.Need-read-side-requires
