@@ -17,7 +17,10 @@ small : (n : ℕ) → n ≤ checkers → toZ w8 n ≡ pos n
 small n h = toZ-pos w8 n (omega arith)
 
 near : (x o : ℕ) → x ≤ checkers → o ≤ checkers → mag (pos x -ℤ pos o) < 128
-near x o h k = in-range (pos x -ℤ pos o) 128 (omega (arith, less (pos x) (pos o), apart (pos x -ℤ pos o))) (omega (arith, less (pos x) (pos o), apart (pos x -ℤ pos o)))
+near x o h k =
+    let l = less (pos x) (pos o) in
+    let a = apart (pos x -ℤ pos o) in
+    in-range (pos x -ℤ pos o) 128 (omega arith) (omega arith)
 
 cast-result : tie.Need-cast-result
 cast-result c = search needs

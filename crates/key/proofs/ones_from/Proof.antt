@@ -29,7 +29,8 @@ returns : tie.Need-returns Inv-loop μ-loop
 returns c =
     let s = c .before .before .before .before .before in
     let l = c .before .before .before .before .loop in
-    omega (arith, l .inv .1, lead-no (bitsOf (s .args .key .now)) (s .args .from + l .n) (sym (c .before .bit .ensures) ∙ not-true (c .before .bit .result) (c .if1 .taken)))
+    let z = lead-no (bitsOf (s .args .key .now)) (s .args .from + l .n) (sym (c .before .bit .ensures) ∙ not-true (c .before .bit .result) (c .if1 .taken)) in
+    omega (arith, l .inv .1)
 
 add-n : tie.Need-add-n Inv-loop μ-loop
 add-n c = omega arith

@@ -9,7 +9,8 @@ use Rattle.key.proofs.set_ones.Statement.{statement}
 use Rattle.key.proofs.set_ones.Tie as tie
 
 abbrev Inv-loop : tie.InvT-loop
-Inv-loop key₀ from n k₀ key k = (k ≤ n) × (merged (bitsOf key) (from + k) (replicate (n - k) true) ≡ merged (bitsOf key₀) from (replicate n true)) × Bytes key
+Inv-loop key₀ from n k₀ key k =
+    (k ≤ n) × (merged (bitsOf key) (from + k) (replicate (n - k) true) ≡ merged (bitsOf key₀) from (replicate n true)) × Bytes key
 
 abbrev μ-loop : tie.MeasureT-loop
 μ-loop key₀ from n k₀ key k = n - k

@@ -20,8 +20,8 @@ use Rattle.key.proofs.written.Tie as tie
 
 abbrev Inv-loop : tie.InvT-loop
 Inv-loop b key₀ at₀ j₀ key at j =
-    (j ≤ 50) × (length key ≡ 10) × (at + total (drop j (counts b)) + (50 - j) ≤ 80)
-    × (merged (bitsOf key) at (runs (drop j (counts b))) ≡ keyBits b) × Bytes key
+    (j ≤ 50) × (at + total (drop j (counts b)) + (50 - j) ≤ 80)
+    × (merged (bitsOf key) at (runs (drop j (counts b))) ≡ keyBits b) × (length key ≡ 10) × Bytes key
 
 abbrev μ-loop : tie.MeasureT-loop
 μ-loop b key₀ at₀ j₀ key at j = 50 - j
@@ -29,7 +29,7 @@ abbrev μ-loop : tie.MeasureT-loop
 loop-holds : tie.Need-loop-holds Inv-loop μ-loop
 loop-holds c =
     let f : 15 ≤ 15 = omega arith in
-    (omega arith, refl, omega (arith, total-counts (c .pre)), rw (bits-zeros 10) (put-start (c .pre) f), bytes-zeros 10)
+    (omega arith, omega (arith, total-counts (c .pre)), rw (bits-zeros 10) (put-start (c .pre) f), refl, bytes-zeros 10)
 
 count-requires : tie.Need-count-requires Inv-loop μ-loop
 count-requires c κs = omega arith
@@ -77,12 +77,12 @@ loop-again c =
     let h = sum-left (c .before) in
     let e = c .set-ones .ensures .0 in (
       omega arith,
-      omega (arith, l .inv .1, length-bits (c .set-ones .last .0), ap length e, length-merged (bitsOf (l .key)) (l .at) (replicate n true), length-bits (l .key)),
       rw (add-one (l .j)) (omega arith),
       rw (add-one (l .j), e)
           (sym (put-run (bitsOf (l .key)) (l .at) n (drop (suc (l .j)) (counts b)))
           ∙ ap (λ (r : List ℕ). merged (bitsOf (l .key)) (l .at) (runs r)) (sym (left (c .before)))
-          ∙ l .inv .3),
+          ∙ l .inv .2),
+      omega (arith, l .inv .3, length-bits (c .set-ones .last .0), ap length e, length-merged (bitsOf (l .key)) (l .at) (replicate n true), length-bits (l .key)),
       c .set-ones .ensures .1,
     )
 
@@ -92,8 +92,8 @@ returns c =
     let l = c .before .loop in
     let b = c .before .before .args .t1 in
     let n : length (counts b) ≤ l .j = omega (arith, length-board-counts b) in
-    let e : bitsOf (l .key) ≡ keyBits b = ap (λ (r : List ℕ). merged (bitsOf (l .key)) (l .at) (runs r)) (sym (drop-of-length-le (counts b) n)) ∙ l .inv .3 in
-    let z : length (l .key) ≡ 10 = l .inv .1 in
+    let e : bitsOf (l .key) ≡ keyBits b = ap (λ (r : List ℕ). merged (bitsOf (l .key)) (l .at) (runs r)) (sym (drop-of-length-le (counts b) n)) ∙ l .inv .2 in
+    let z : length (l .key) ≡ 10 = l .inv .3 in
     sym (ap (bytesOf 10) (sym e) ∙ (rw z at (bytes-bits (l .key) (l .inv .4))))
 
 pub written-spec : {M : Type 1} → statement M
