@@ -9,10 +9,10 @@ use native.Mathlib.Omega.{arith}
 use borrow.Author.Tests.{eqb-true, eqb-false}
 use lib.Bits.{bitAnd, bitOr, or-lt, and-mask}
 use lib.Dec.{eqb}
-use lib.ListN.{length, getD, set, take, drop, length-append, length-drop, length-set, length-take, replicate, replicate-append-replicate, take-append-drop, List·getD-append}
+use lib.ListN.{length, getD, set, take, drop, drop-of-length-le, length-append, length-drop, length-set, length-take, replicate, replicate-append-replicate, take-append-drop, List·getD-append}
 use lib.Pow.{pow-lt, pow-mono}
 use lib.Seq.{ext-getD, getD-append-add, getD-set-same, getD-set-other, set-append-left, take-at, drop-at, length-take-le}
-use Rattle.ints.specs.Bits.{bit, digit, digits, number, bitsOf, bytesOf, Bytes}
+use Rattle.ints.specs.Bits.{bit, digit, digits, number, bitsOf, bytesOf, Bytes, some}
 use Rattle.ints.proofs.Tests.{lt-or-le}
 use Rattle.ints.proofs.Digits.{bit-zero, bit-suc, bit-none, bit-or-pow, shl-one}
 
@@ -217,3 +217,50 @@ bits-zeros zero = refl
 bits-zeros (suc n) =
     let e : 8 * suc n ≡ 8 + 8 * n = omega arith in
     rw e (ap (λ (l : List Bool). replicate 8 false ++ l) (bits-zeros n) ∙ replicate-append-replicate 8 (8 * n) false)
+
+-- ---- whether a 1 is among bits, as a loop asks it from bit j on
+
+pub some-yes : (l : List Bool) (j : ℕ) → getD l j false ≡ true → some (drop j l) ≡ true
+unfolding some
+some-yes [] zero e = cc
+some-yes [] (suc j) e = cc
+some-yes (false ∷ l) zero e = cc
+some-yes (true ∷ l) zero e = refl
+some-yes (b ∷ l) (suc j) e = some-yes l j e
+
+pub some-no : (l : List Bool) (j : ℕ) → getD l j false ≡ false → some (drop j l) ≡ some (drop (suc j) l)
+unfolding some
+some-no [] zero e = refl
+some-no [] (suc j) e = refl
+some-no (false ∷ l) zero e = refl
+some-no (true ∷ l) zero e = cc
+some-no (b ∷ l) (suc j) e = some-no l j e
+
+pub some-end : (l : List Bool) (j : ℕ) → length l ≤ j → some (drop j l) ≡ false
+unfolding some
+some-end l j h = ap some (drop-of-length-le l h)
+
+-- where none is, each bit is 0
+pub none-at : (l : List Bool) (j : ℕ) → some l ≡ false → getD l j false ≡ false
+unfolding some
+none-at [] j e = refl
+none-at (false ∷ l) zero e = refl
+none-at (false ∷ l) (suc j) e = none-at l j e
+none-at (true ∷ l) j e = cc
+
+pub none-zeros : (l : List Bool) → some l ≡ false → l ≡ replicate (length l) false
+unfolding some
+none-zeros [] e = refl
+none-zeros (false ∷ l) e = ap (λ (k : List Bool). false ∷ k) (none-zeros l e)
+none-zeros (true ∷ l) e = cc
+
+pub zeros-none : (n : ℕ) → some (replicate n false) ≡ false
+unfolding some
+zeros-none zero = refl
+zeros-none (suc n) = zeros-none n
+
+pub none-if : (l : List Bool) → ((j : ℕ) → j < length l → getD l j false ≡ false) → some l ≡ false
+unfolding some
+none-if [] h = refl
+none-if (false ∷ l) h = none-if l (λ j m. h (suc j) (omega arith))
+none-if (true ∷ l) h = h 0 (omega arith)

@@ -18,6 +18,14 @@ length-merged l i (d ∷ ds) = length-merged (cond d (set l i true) l) (suc i) d
     one true = length-set l i true
     one false = refl
 
+-- bits merged one after another
+pub merged-append : (l : List Bool) (i : ℕ) (ds es : List Bool) → merged l i (ds ++ es) ≡ merged (merged l i ds) (i + length ds) es
+unfolding merged
+merged-append l i [] es = let e : i + 0 ≡ i = omega arith in rw e
+merged-append l i (d ∷ ds) es =
+    let e : suc i + length ds ≡ i + suc (length ds) = omega arith in
+    merged-append (cond d (set l i true) l) (suc i) ds es ∙ ap (λ (k : ℕ). merged (merged (cond d (set l i true) l) (suc i) ds) k es) e
+
 -- bits merged into as many 0s stand there, whatever stands around them
 pub merged-between : (ds p r : List Bool) → merged (p ++ (replicate (length ds) false ++ r)) (length p) ds ≡ p ++ (ds ++ r)
 unfolding merged

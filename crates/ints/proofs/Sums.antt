@@ -2,7 +2,7 @@
 -- Assumes nothing.
 use mathlib.Core.Path.{_≡_, refl, sym, ap, _∙_, subst}
 use mathlib.Core.Logic.{_⊎_, ⊎-elim}
-use mathlib.Core.List.{List}
+use mathlib.Core.List.{List, [], _∷_, _++_}
 use Prim.Native.Nat.{ℕ, zero, suc, _+_, _-_, _≤_, _<_}
 use native.Mathlib.Decide.{ℕ-discrete}
 use native.Mathlib.Omega.{arith}
@@ -11,7 +11,7 @@ use native.Mathlib.Numerals.{add-one}
 use borrow.Author.Tests.{eq-eqb, ne-eqb}
 use lib.ListN.{length, getD, set, length-set}
 use lib.Seq.{ext-getD, getD-set-same, getD-set-other}
-use Rattle.ints.specs.Sums.{sumTo, values, one}
+use Rattle.ints.specs.Sums.{sumTo, values, total, one}
 use Rattle.ints.proofs.Tests.{last}
 
 -- the turn of a loop that sums
@@ -114,6 +114,28 @@ pub sum-plus : (f g : ℕ → ℕ) (n : ℕ) → sumTo (λ k. f k + g k) n ≡ s
 unfolding sumTo
 sum-plus f g zero = refl
 sum-plus f g (suc n) = omega (arith, sum-plus f g n)
+
+-- ---- the sum of a list
+
+pub total-append : (l m : List ℕ) → total (l ++ m) ≡ total l + total m
+unfolding total
+total-append [] m = omega arith
+total-append (n ∷ l) m = omega (arith, total-append l m)
+
+pub part-total : (l : List ℕ) (k : ℕ) → getD l k 0 ≤ total l
+unfolding total
+part-total [] k = omega arith
+part-total (n ∷ l) zero = omega arith
+part-total (n ∷ l) (suc k) = omega (arith, part-total l k)
+
+-- the values from i on are what the sum below i lacks
+pub total-values : (f : ℕ → ℕ) (i n : ℕ) → total (values f i n) + sumTo f i ≡ sumTo f (i + n)
+unfolding values total sumTo
+total-values f i zero = let e : i + zero ≡ i = omega arith in rw e (omega arith)
+total-values f i (suc n) =
+    let e : i + suc n ≡ suc i + n = omega arith in
+    let s = total-values f (suc i) n in
+    rw e (omega arith)
 
 -- ---- the one place
 

@@ -1,5 +1,5 @@
 -- Bits of numbers and of bytes; a list of bits stands low first.
-use mathlib.Core.Bool.{Bool, true, false, cond}
+use mathlib.Core.Bool.{Bool, true, false, cond, _||_}
 use mathlib.Core.List.{List, [], _∷_, _++_}
 use Prim.Native.Nat.{ℕ, zero, suc, _+_, _*_, _/_, _%_, _^_, _<_}
 use lib.Dec.{eqb}
@@ -42,3 +42,8 @@ Bytes l = (k : ℕ) → getD l k 0 < 256
 unfoldable pub merged : List Bool → ℕ → List Bool → List Bool
 merged l i [] = l
 merged l i (d ∷ ds) = merged (cond d (set l i true) l) (suc i) ds
+
+-- Whether a 1 is among these bits.
+unfoldable pub some : List Bool → Bool
+some [] = false
+some (b ∷ l) = b || some l

@@ -19,6 +19,11 @@ unfoldable pub values : {A : Type 0} → (ℕ → A) → ℕ → ℕ → List A
 values f i zero = []
 values f i (suc n) = f i ∷ values f (suc i) n
 
+-- the numbers of a list summed
+unfoldable pub total : List ℕ → ℕ
+total [] = 0
+total (n ∷ ns) = n + total ns
+
 -- 1 where i is p, else 0
 unfoldable pub one : ℕ → ℕ → ℕ
 one p i = cond (eqb p i) 1 0

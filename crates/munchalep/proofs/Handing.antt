@@ -9,5 +9,5 @@ use Rattle.munchalep.specs.Lent.{after, Put}
 pub handed : {a b : BoardAnswer} {out out' : List ℤ} {r : ℕ} → Put a out r out' → a ≡ b → Put b out r out'
 handed {a} {b} {out} p e = record {
   number = p .number ∙ ap (λ (x : BoardAnswer). x .refused) e;
-  lent = p .lent ∙ ap (λ (x : BoardAnswer). after x out) e;
+  lent = p .lent ∙ ap (λ (x : BoardAnswer). after (x .refused) (x .board) out) e;
 }

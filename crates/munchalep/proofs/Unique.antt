@@ -10,14 +10,18 @@ use Rattle.position.specs.Board.{checkers, refusalOf}
 use Rattle.position.specs.Phase.{phaseAnswer}
 use Rattle.position.specs.declared.BoardAnswer.{BoardAnswer}
 use Rattle.moves.specs.Answers.{listAnswer, listedIn, countAnswer}
-use Rattle.munchalep.specs.Lent.{Put}
+use Rattle.key.specs.declared.KeyAnswer.{KeyAnswer}
+use Rattle.munchalep.specs.Lent.{Put, PutKey}
 
 pub check-unique : (b : List ℤ) (r s : ℕ) → r ≡ refusalOf checkers b → s ≡ refusalOf checkers b → r ≡ s
 check-unique b r s p q = one-answer p q
 
--- of every entry that answers a board: `munchalep_switch`, `munchalep_step` and `munchalep_end`
+-- of every entry that answers a board: `munchalep_switch`, `munchalep_step`, `munchalep_end` and `munchalep_board_of_key`
 pub put-unique : (a : BoardAnswer) (out : List ℤ) (r s : ℕ) (l m : List ℤ) → Put a out r l → Put a out s m → (r ≡ s) × (l ≡ m)
 put-unique a out r s l m p q = (one-answer (p .number) (q .number), one-answer (p .lent) (q .lent))
+
+pub key-unique : (a : KeyAnswer) (out : List ℕ) (r s : ℕ) (l m : List ℕ) → PutKey a out r l → PutKey a out s m → (r ≡ s) × (l ≡ m)
+key-unique a out r s l m p q = (one-answer (p .number) (q .number), one-answer (p .lent) (q .lent))
 
 pub result-unique : (b : List ℤ) (r s : ℕ) → r ≡ packed (phaseAnswer checkers b) → s ≡ packed (phaseAnswer checkers b) → r ≡ s
 result-unique b r s p q = one-answer p q

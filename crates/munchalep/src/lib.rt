@@ -1,6 +1,6 @@
 // The C interface: thin functions over the proved crates, declared for C in include/munchalep.h.
-// Every function answers one number: the refusal's in the low byte, 0 for none, and 256 times the value above it. A board that is
-// answered goes to an out parameter, which a refusal leaves as it was.
+// Every function answers one number: the refusal's in the low byte, 0 for none, and 256 times the value above it. A board or a key
+// that is answered goes to an out parameter, which a refusal leaves as it was.
 use moves::Counted;
 use moves::Listed;
 use position::BoardAnswer;
@@ -13,7 +13,8 @@ ghost use Rattle.position.specs.Board.{checkers, refusalOf};
 ghost use Rattle.position.specs.Phase.{phaseAnswer};
 ghost use Rattle.position.specs.Answers.{switchAnswer, stepAnswer, phaseTold};
 ghost use Rattle.moves.specs.Answers.{listTold, listAnswer, listedIn, countTold, countAnswer, endAnswer};
-ghost use Rattle.munchalep.specs.Lent.{Put};
+ghost use Rattle.key.specs.Key.{keyAnswer, boardOfKeyAnswer};
+ghost use Rattle.munchalep.specs.Lent.{Put, PutKey};
 
 // The refusal of a board, 1 to 4, or 0.
 #[no_mangle]
@@ -42,6 +43,29 @@ pub extern "C" fn munchalep_step(
     ensures { λ r. ⌜ Put (stepAnswer checkers (now (board .entry)) from die) (now (out .entry)) r (now (out .exit)) ⌝ }
 {
     put(position::try_move_single_checker(*board, from, die), out)
+}
+
+// The key of the board.
+#[no_mangle]
+pub extern "C" fn munchalep_key(board: &[i8; 26], key: &mut [u8; 10]) -> u64
+    ensures { λ r. ⌜ PutKey (keyAnswer checkers (now (board .entry))) (now (key .entry)) r (now (key .exit)) ⌝ }
+{
+    let answer = key::encode(*board);
+    let number = answer.refused;
+    if number != 0 {
+        return number as u64;
+    }
+    let bytes = answer.key;
+    *key = bytes;
+    0
+}
+
+// The board of the key.
+#[no_mangle]
+pub extern "C" fn munchalep_board_of_key(key: &[u8; 10], out: &mut [i8; 26]) -> u64
+    ensures { λ r. ⌜ Put (boardOfKeyAnswer checkers (now (key .entry))) (now (out .entry)) r (now (out .exit)) ⌝ }
+{
+    put(key::decode(*key), out)
 }
 
 // The number of result and phase, 0 to 7, as the value.

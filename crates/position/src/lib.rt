@@ -106,7 +106,7 @@ pub fn refused(n: u8) -> BoardAnswer
     }
 }
 
-// The answer of a board.
+// A board's answer, without a refusal.
 pub fn answered(b: [i8; 26]) -> BoardAnswer
     ensures { λ r. ⌜ (r .refused ≡ 0) × (r .board ≡ b) ⌝ }
 {
