@@ -92,7 +92,9 @@ pub fn tables(counts: &[Counts]) -> String {
     let mut total = Counts::NONE;
     counts.iter().for_each(|counts| total += counts);
     let named: Vec<_> = kinds().into_iter().zip(counts).chain([("all", &total)]).collect();
-    let mut tables = vec![calls_by_kind(&named), calls_by_answer(&total)];
+    let is_called = |entry: &usize| total.answers[*entry].iter().any(|&calls| calls > 0);
+    let entries: Vec<usize> = (0..ENTRIES.len()).filter(is_called).collect();
+    let mut tables = vec![calls_by_kind(&named, &entries), calls_by_answer(&total, &entries)];
     if total.rolls > 0 {
         tables.push(rolls_by_kind(&named));
     }
@@ -102,27 +104,32 @@ pub fn tables(counts: &[Counts]) -> String {
     tables.join("\n")
 }
 
-fn calls_by_kind(named: &[(&str, &Counts)]) -> String {
-    let mut table = row("kind of input", &[&["boards"], &ENTRIES[..]].concat());
+fn calls_by_kind(named: &[(&str, &Counts)], entries: &[usize]) -> String {
+    let mut table = row("kind of input", &[&["boards"], &names(entries)[..]].concat());
     for (name, counts) in named {
-        let calls = counts.answers.map(|answers| answers.iter().sum());
+        let calls = entries.iter().map(|&entry| counts.answers[entry].iter().sum());
         let cells: Vec<String> = [counts.boards].into_iter().chain(calls).map(grouped).collect();
         table += &row(name, &cells);
     }
     table
 }
 
-fn calls_by_answer(total: &Counts) -> String {
-    let mut table = row("answer", &ENTRIES);
+fn calls_by_answer(total: &Counts, entries: &[usize]) -> String {
+    let mut table = row("answer", &names(entries));
     for refusal in 0..REFUSALS {
-        let calls = total.answers.map(|answers| answers[refusal]);
+        let calls: Vec<u64> = entries.iter().map(|&entry| total.answers[entry][refusal]).collect();
         if calls.iter().any(|&calls| calls > 0) {
             let name = format!("refusal {refusal}");
             let name = if refusal == 0 { "not refused" } else { &name };
-            table += &row(name, &calls.map(grouped));
+            table += &row(name, &calls.into_iter().map(grouped).collect::<Vec<_>>());
         }
     }
-    table + &row("judged by wildbg too", &total.judged.map(grouped))
+    let judged: Vec<String> = entries.iter().map(|&entry| grouped(total.judged[entry])).collect();
+    table + &row("judged by wildbg too", &judged)
+}
+
+fn names(entries: &[usize]) -> Vec<&'static str> {
+    entries.iter().map(|&entry| ENTRIES[entry]).collect()
 }
 
 fn rolls_by_kind(named: &[(&str, &Counts)]) -> String {

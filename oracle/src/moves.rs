@@ -37,6 +37,16 @@ enum Call {
     End { number: usize },
 }
 
+impl Call {
+    fn list(length: usize) -> Call {
+        Call::List { length }
+    }
+
+    fn end(number: usize) -> Call {
+        Call::End { number }
+    }
+}
+
 /// A call of a board and dice.
 #[derive(Clone, Copy, PartialEq, Eq, Hash)]
 struct MovesCase {
@@ -100,8 +110,8 @@ fn limit_calls(ends: usize) -> Vec<Call> {
     }
     numbers.extend(NO_ENDS);
 
-    let lists = lengths.into_iter().map(|length| Call::List { length });
-    let by_number = numbers.into_iter().map(|number| Call::End { number });
+    let lists = lengths.into_iter().map(Call::list);
+    let by_number = numbers.into_iter().map(Call::end);
     [Call::Count].into_iter().chain(lists).chain(by_number).collect()
 }
 
@@ -145,13 +155,13 @@ impl Case for MovesCase {
         let seconds = smaller::numbers(die2).map(|die2| (die1, die2));
         smaller.extend(firsts.chain(seconds).map(|dice| MovesCase { dice, ..*self }));
         let calls: Vec<Call> = match self.call {
+            // A list that is as long as it has to be shows the ends that differ.
             Call::List { length } => {
-                smaller::numbers(length).map(|length| Call::List { length }).collect()
+                let need = Ends::of(&self.board, self.dice).number() * END_BYTES;
+                [need].into_iter().filter(|&need| need < length).map(Call::list).collect()
             }
             Call::Count => Vec::new(),
-            Call::End { number } => {
-                smaller::numbers(number).map(|number| Call::End { number }).collect()
-            }
+            Call::End { number } => smaller::numbers(number).map(Call::end).collect(),
         };
         smaller.extend(calls.into_iter().map(|call| MovesCase { call, ..*self }));
         smaller

@@ -106,9 +106,11 @@ impl Lists {
 
 /// The difference of a roll on which the sides do not agree.
 fn difference(board: &Board, dice: (usize, usize), need: usize) -> Difference {
-    let lists = [ROOM, need].map(|length| Call::List { length });
-    let cases =
-        [Call::Count, lists[0], lists[1]].map(|call| MovesCase { board: *board, dice, call });
+    let cases = [Call::Count, Call::list(ROOM), Call::list(need)].map(|call| MovesCase {
+        board: *board,
+        dice,
+        call,
+    });
     let differs = |case: &MovesCase| !case.answers().agree();
     match cases.into_iter().find(differs) {
         Some(case) => Difference::of(case),
