@@ -86,8 +86,13 @@ fn differs(record: &[u8; RECORD], list: &mut [u8]) -> u64
         return 1;
     }
     let mut out = [85i8; 26];
-    let answer =
-        munchalep::munchalep_end(&board, die1, die2, number(record, 58) as usize, &mut out);
+    let answer = munchalep::munchalep_end(
+        &board,
+        die1,
+        die2,
+        number(record, 58) as usize,
+        &mut out,
+    );
     if answer != number(record, 66) {
         return 1;
     }
