@@ -9,10 +9,11 @@ use std::fs;
 pub type Maker = fn(u64) -> Result<Vec<u8>, Difference>;
 
 /// The options that store data, each with its maker.
-pub const STORES: [(&str, Maker); 3] = [
+pub const STORES: [(&str, Maker); 4] = [
     ("--store", position::stored::records),
     ("--store-dice", |_| dice::stored()),
     ("--store-moves", moves::stored::records),
+    ("--store-lists", moves::stored::lists),
 ];
 
 /// Writes the files that are asked for. Answers what it wrote, or what failed.
