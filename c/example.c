@@ -4,6 +4,7 @@
 #include "munchalep.h"
 
 #include <stdio.h>
+#include <string.h>
 
 static const int8_t start[26] = {
     0,  -2, 0, 0, 0,  0, 5,  0, 3, 0, 0, 0, -5,
@@ -82,11 +83,51 @@ static void result(void)
     print_refusal("empty board, result", munchalep_result(empty));
 }
 
+/* Prints the ends that a list has, as the other side sees them. */
+static void print_ends(const uint8_t *list, uint64_t ends)
+{
+    uint64_t n;
+
+    for (n = 0; n < ends; n++) {
+        int8_t end[26];
+
+        memcpy(end, list + n * MUNCHALEP_END_BYTES, MUNCHALEP_END_BYTES);
+        printf("    end %u:", (unsigned)n);
+        print_board(end);
+    }
+}
+
+static void ends(void)
+{
+    int8_t lone[26] = {0}, out[26] = {0};
+    uint8_t list[2 * MUNCHALEP_END_BYTES] = {0};
+    uint64_t answer;
+
+    lone[13] = 1;
+    lone[12] = -1;
+    answer = munchalep_list(lone, 2, 1, list, sizeof list);
+    print_refusal("x 13:1; o 12:1, list of 2-1", answer);
+    print_ends(list, munchalep_value_of(answer));
+    print_answer("x 13:1; o 12:1, end 1 of 2-1", munchalep_end(lone, 2, 1, 1, out), out);
+    /* Refused, so `out` still has end 1. */
+    print_answer("x 13:1; o 12:1, end 2 of 2-1", munchalep_end(lone, 2, 1, 2, out), out);
+
+    answer = munchalep_count(start, 3, 1);
+    print_refusal("start, count of 3-1", answer);
+    printf("    ends: %u\n", (unsigned)munchalep_value_of(answer));
+    /* The list has room for two ends. It stays as it was, and the answer says how many there are. */
+    answer = munchalep_list(start, 3, 1, list, sizeof list);
+    print_refusal("start, list of 3-1, room for 2", answer);
+    printf("    ends: %u\n", (unsigned)munchalep_value_of(answer));
+    print_ends(list, 2);
+}
+
 int main(void)
 {
     check();
     switch_sides();
     steps();
     result();
+    ends();
     return 0;
 }

@@ -9,13 +9,14 @@
  * Nothing has to hold of a board or a number before a call: every function
  * takes any bytes and any numbers, and answers or refuses. Pointers are not
  * null, each points to as many entries as its parameter says, and what a
- * function writes (`out`) does not overlap what it reads (`board`).
+ * function writes (`out`, `list`) does not overlap what it reads (`board`).
  *
  * Every function answers one uint64_t. Its low byte is the refusal number, 0
  * where nothing is refused; the 56 bits above it are a value, which each
  * function below describes. munchalep_refusal_of() and munchalep_value_of()
- * take the two apart. A board that is answered goes to `out`; a refusal leaves
- * `out` as it was. Where several refusals apply, the one named first is given.
+ * take the two apart. A board that is answered goes to `out`, the ends of a
+ * roll go to `list`; a refusal leaves both as they were. Where several refusals
+ * apply, the one named first is given.
  *
  * No function keeps anything between calls, so threads may call them at once.
  */
@@ -72,6 +73,10 @@ enum munchalep_refusal {
     MUNCHALEP_NO_SUCH_POSITION = 36   /* the position number is above the number of turns */
 };
 
+/* Bytes of an end in a list, and the most ends that a roll can have. */
+#define MUNCHALEP_END_BYTES 26
+#define MUNCHALEP_MOST_ENDS 17550
+
 /* What munchalep_result() says of a board, from x's side. */
 enum munchalep_outcome {
     MUNCHALEP_CONTACT = 0,     /* unfinished, and the sides can still meet */
@@ -118,6 +123,31 @@ uint64_t munchalep_step(const int8_t board[26], size_t from, size_t die, int8_t 
  * munchalep_outcome. Refuses 1, 2, 3, 4, 6.
  */
 uint64_t munchalep_result(const int8_t board[26]);
+
+/*
+ * The ends of a roll, to `list`: every board that x may leave, once, as the
+ * other side sees it (sides switched), 26 bytes an end, two's complement. Where
+ * nothing can be played there is one end, the board itself, switched. The dice
+ * may be given in either order. The value is the number of ends; bytes after
+ * the last end stay as they were. Refuses 1, 2, 3, 4, 6, 5, 7, 10.
+ *
+ * `length` is the number of bytes lent. A list under 26 bytes an end is refused
+ * by 10, and then the value is the number of ends all the same. With room for
+ * MUNCHALEP_MOST_ENDS none is refused by 10, and the ends are not counted
+ * first, which takes less time.
+ */
+uint64_t munchalep_list(const int8_t board[26], size_t die1, size_t die2, uint8_t *list,
+                        size_t length);
+
+/* The number of ends of a roll, as the value. Refuses 1, 2, 3, 4, 6, 5, 7. */
+uint64_t munchalep_count(const int8_t board[26], size_t die1, size_t die2);
+
+/*
+ * The end with a number, counted from 0 in the order of munchalep_list(), to
+ * `out`, sides switched. Refuses 1, 2, 3, 4, 6, 5, 7, 11. The value is 0.
+ */
+uint64_t munchalep_end(const int8_t board[26], size_t die1, size_t die2, size_t number,
+                       int8_t out[26]);
 
 #ifdef __cplusplus
 }

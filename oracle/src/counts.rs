@@ -12,10 +12,13 @@ pub enum Entry {
     Switch,
     Step,
     Result,
+    List,
+    Count,
+    End,
 }
 
 /// Their names, in the enum's order.
-const ENTRIES: [&str; 4] = ["check", "switch", "step", "result"];
+const ENTRIES: [&str; 7] = ["check", "switch", "step", "result", "list", "count", "end"];
 
 const REFUSALS: usize = 37;
 const RESULTS: usize = 8;
@@ -30,6 +33,11 @@ pub struct Counts {
     judged: [u64; ENTRIES.len()],
     /// What the entry `result` said, by its number.
     results: [u64; RESULTS],
+    /// Boards with a roll whose whole list was compared, the ends of all of them, and of the one
+    /// that has the most.
+    rolls: u64,
+    ends: u64,
+    most_ends: u64,
 }
 
 impl Counts {
@@ -38,6 +46,9 @@ impl Counts {
         answers: [[0; REFUSALS]; ENTRIES.len()],
         judged: [0; ENTRIES.len()],
         results: [0; RESULTS],
+        rolls: 0,
+        ends: 0,
+        most_ends: 0,
     };
 
     /// Counts one call.
@@ -49,6 +60,13 @@ impl Counts {
             self.results[value as usize] += 1;
         }
     }
+
+    /// Counts a board with a roll, and its ends.
+    pub fn add_roll(&mut self, ends: u64) {
+        self.rolls += 1;
+        self.ends += ends;
+        self.most_ends = self.most_ends.max(ends);
+    }
 }
 
 impl AddAssign<&Counts> for Counts {
@@ -57,6 +75,9 @@ impl AddAssign<&Counts> for Counts {
         add_each(self.answers.as_flattened_mut(), other.answers.as_flattened());
         add_each(&mut self.judged, &other.judged);
         add_each(&mut self.results, &other.results);
+        self.rolls += other.rolls;
+        self.ends += other.ends;
+        self.most_ends = self.most_ends.max(other.most_ends);
     }
 }
 
@@ -69,36 +90,59 @@ fn add_each(sums: &mut [u64], more: &[u64]) {
 /// The counts of every kind of input, as tables for people.
 pub fn tables(counts: &[Counts]) -> String {
     let mut total = Counts::NONE;
-    let mut text = row("kind of input", &[&["boards"], &ENTRIES[..]].concat());
-    for (name, counts) in kinds().into_iter().zip(counts) {
-        total += counts;
-        text += &kind_row(name, counts);
+    counts.iter().for_each(|counts| total += counts);
+    let named: Vec<_> = kinds().into_iter().zip(counts).chain([("all", &total)]).collect();
+    let is_called = |entry: &usize| total.answers[*entry].iter().any(|&calls| calls > 0);
+    let entries: Vec<usize> = (0..ENTRIES.len()).filter(is_called).collect();
+    let mut tables = vec![calls_by_kind(&named, &entries), calls_by_answer(&total, &entries)];
+    if total.rolls > 0 {
+        tables.push(rolls_by_kind(&named));
     }
-    text += &kind_row("all", &total);
+    if total.results.iter().any(|&boards| boards > 0) {
+        tables.push(results(&total));
+    }
+    tables.join("\n")
+}
 
-    text += "\n";
-    text += &row("answer", &ENTRIES);
+fn calls_by_kind(named: &[(&str, &Counts)], entries: &[usize]) -> String {
+    let mut table = row("kind of input", &[&["boards"], &names(entries)[..]].concat());
+    for (name, counts) in named {
+        let calls = entries.iter().map(|&entry| counts.answers[entry].iter().sum());
+        let cells: Vec<String> = [counts.boards].into_iter().chain(calls).map(grouped).collect();
+        table += &row(name, &cells);
+    }
+    table
+}
+
+fn calls_by_answer(total: &Counts, entries: &[usize]) -> String {
+    let mut table = row("answer", &names(entries));
     for refusal in 0..REFUSALS {
-        let calls = total.answers.map(|answers| answers[refusal]);
+        let calls: Vec<u64> = entries.iter().map(|&entry| total.answers[entry][refusal]).collect();
         if calls.iter().any(|&calls| calls > 0) {
             let name = format!("refusal {refusal}");
             let name = if refusal == 0 { "not refused" } else { &name };
-            text += &row(name, &calls.map(grouped));
+            table += &row(name, &calls.into_iter().map(grouped).collect::<Vec<_>>());
         }
     }
-    text += &row("judged by wildbg too", &total.judged.map(grouped));
-
-    text += "\n";
-    for (number, &boards) in total.results.iter().enumerate() {
-        text += &row(&format!("result {number}"), &[grouped(boards)]);
-    }
-    text
+    let judged: Vec<String> = entries.iter().map(|&entry| grouped(total.judged[entry])).collect();
+    table + &row("judged by wildbg too", &judged)
 }
 
-fn kind_row(name: &str, counts: &Counts) -> String {
-    let calls = counts.answers.map(|answers| answers.iter().sum());
-    let cells: Vec<String> = [counts.boards].into_iter().chain(calls).map(grouped).collect();
-    row(name, &cells)
+fn names(entries: &[usize]) -> Vec<&'static str> {
+    entries.iter().map(|&entry| ENTRIES[entry]).collect()
+}
+
+fn rolls_by_kind(named: &[(&str, &Counts)]) -> String {
+    let mut table = row("kind of input", &["with a roll", "ends", "most ends"]);
+    for (name, counts) in named {
+        table += &row(name, &[counts.rolls, counts.ends, counts.most_ends].map(grouped));
+    }
+    table
+}
+
+fn results(total: &Counts) -> String {
+    let results = total.results.iter().enumerate();
+    results.map(|(number, &boards)| row(&format!("result {number}"), &[grouped(boards)])).collect()
 }
 
 /// One line of a table.

@@ -1,6 +1,7 @@
 //! wildbg's answers, inside the domain where it decides. An answer is `None` outside that domain,
 //! where wildbg is not called: it would panic, or answer for something that is not a board.
 
+use engine::dice::Dice;
 use engine::position::{GamePhase, GameResult, OngoingPhase, Position};
 use munchalep::Board;
 
@@ -47,6 +48,17 @@ impl Judge {
                 return None;
             }
             Some(Ok(phase_number(position.game_phase())))
+        })
+    }
+
+    /// The ends of a roll in order, sides switched. wildbg decides on unfinished boards.
+    pub fn ends(&self, dice: (usize, usize)) -> Option<Result<Vec<Position>, u8>> {
+        self.answer(|position| {
+            let board = Board::from(*position);
+            let is_unfinished =
+                board.iter().any(|&entry| entry > 0) && board.iter().any(|&entry| entry < 0);
+            let dice = Dice::try_from(dice).ok().filter(|_| is_unfinished)?;
+            Some(Ok(position.all_positions_after_moving(&dice)))
         })
     }
 

@@ -1,5 +1,6 @@
 //! The command's options.
 
+use crate::search::{GROUPS, Group};
 use crate::store::{Maker, STORES};
 use std::num::NonZero;
 use std::path::PathBuf;
@@ -11,6 +12,8 @@ pub struct Options {
     /// How long random boards are compared.
     pub seconds: u64,
     pub threads: usize,
+    /// Which entries are compared.
+    pub groups: Vec<Group>,
     /// What is to be stored, and where.
     pub stores: Vec<(Maker, PathBuf)>,
 }
@@ -22,6 +25,7 @@ impl Options {
             seed: 1,
             seconds: 100,
             threads: thread::available_parallelism().map_or(1, NonZero::get),
+            groups: GROUPS.map(|(_, group)| group).into(),
             stores: Vec::new(),
         };
         while let Some(name) = words.next() {
@@ -30,6 +34,7 @@ impl Options {
                 "--seed" => options.seed = number(&name, &value)?,
                 "--seconds" => options.seconds = number(&name, &value)?,
                 "--threads" => options.threads = number::<NonZero<usize>>(&name, &value)?.get(),
+                "--only" => options.groups = vec![group(&value)?],
                 _ => options.stores.push((maker(&name)?, value.into())),
             }
         }
@@ -40,6 +45,11 @@ impl Options {
 fn number<N: FromStr>(name: &str, value: &str) -> Result<N, String> {
     let wrong = |_| format!("{name} does not take {value}");
     value.parse().map_err(wrong)
+}
+
+fn group(name: &str) -> Result<Group, String> {
+    let group = GROUPS.iter().find(|(group, _)| *group == name);
+    group.map(|&(_, group)| group).ok_or(format!("--only does not take {name}"))
 }
 
 fn maker(name: &str) -> Result<Maker, String> {

@@ -1,6 +1,10 @@
 //! Document 01's words as plain code, written from them and not from wildbg: the second judge
 //! inside wildbg's domain, and the only one outside it. A refusal is an `Err` with its number.
 
+mod ends;
+
+pub use ends::{ends, play};
+
 use crate::boards::board;
 use munchalep::Board;
 use std::cmp::Ordering::{Equal, Greater, Less};

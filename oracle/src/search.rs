@@ -4,20 +4,49 @@ use crate::boards::{Boards, kinds};
 use crate::counts::{Counts, grouped, tables};
 use crate::difference::Difference;
 use crate::options::Options;
-use crate::position;
+use crate::{moves, position};
 use munchalep::Board;
 use std::sync::atomic::{AtomicBool, AtomicU64, AtomicUsize, Ordering::Relaxed};
 use std::sync::{Mutex, OnceLock};
 use std::thread::{self, ScopedJoinHandle};
 use std::time::{Duration, Instant};
 
-/// Compares every entry that takes a board.
-fn compare_board(board: &Board, counts: &mut Counts) -> Result<(), Difference> {
-    position::compare(board, counts)
+/// What can be compared of a board: groups of entries.
+#[derive(Clone, Copy, PartialEq, Eq)]
+pub enum Group {
+    Position,
+    Moves,
+}
+
+/// All groups, by the names that `--only` takes.
+pub const GROUPS: [(&str, Group); 2] = [("position", Group::Position), ("moves", Group::Moves)];
+
+/// Compares the entries of some groups, with memory of its own.
+struct Comparison<'a> {
+    groups: &'a [Group],
+    lists: moves::Lists,
+}
+
+impl Comparison<'_> {
+    fn compare(&mut self, board: &Board, counts: &mut Counts) -> Result<(), Difference> {
+        self.groups.iter().try_for_each(|group| match group {
+            Group::Position => position::compare(board, counts),
+            Group::Moves => self.lists.compare(board, counts),
+        })
+    }
+}
+
+/// Compares the document's own answers.
+fn compare_document(groups: &[Group]) -> Result<(), Difference> {
+    groups.iter().try_for_each(|group| match group {
+        Group::Position => position::document::compare(),
+        Group::Moves => moves::document::compare(),
+    })
 }
 
 /// What the threads share.
-struct Search {
+struct Search<'a> {
+    groups: &'a [Group],
     boards: Boards,
     start: Instant,
     /// When the first random block was taken, and for how long they are.
@@ -33,8 +62,9 @@ struct Search {
 /// Compares all fixed boards, then random ones for the time asked. Answers what was compared, or a
 /// difference.
 pub fn run(options: &Options) -> Result<String, String> {
-    position::document::compare().map_err(|difference| difference.to_string())?;
+    compare_document(&options.groups).map_err(|difference| difference.to_string())?;
     let search = Search {
+        groups: &options.groups,
         boards: Boards::new(options.seed),
         start: Instant::now(),
         random_start: OnceLock::new(),
@@ -59,7 +89,7 @@ pub fn run(options: &Options) -> Result<String, String> {
     ))
 }
 
-impl Search {
+impl Search<'_> {
     /// All threads' counts, of each kind of input.
     fn on_threads(&self, threads: usize) -> Vec<Counts> {
         let mut counts = vec![Counts::NONE; kinds().len()];
@@ -79,10 +109,11 @@ impl Search {
     /// One thread's share, with its counts of each kind of input.
     fn work(&self) -> Vec<Counts> {
         let mut counts = vec![Counts::NONE; kinds().len()];
+        let mut comparison = Comparison { groups: self.groups, lists: moves::Lists::new() };
         while let Some(number) = self.next() {
             let (kind, boards) = self.boards.block(number);
             for board in boards.iter() {
-                if let Err(difference) = compare_board(board, &mut counts[kind]) {
+                if let Err(difference) = comparison.compare(board, &mut counts[kind]) {
                     self.report(number, difference);
                     return counts;
                 }

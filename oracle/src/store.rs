@@ -2,15 +2,18 @@
 
 use crate::difference::Difference;
 use crate::options::Options;
-use crate::{dice, position};
+use crate::{dice, moves, position};
 use std::fs;
 
 /// Makes the data of a seed.
 pub type Maker = fn(u64) -> Result<Vec<u8>, Difference>;
 
 /// The options that store data, each with its maker.
-pub const STORES: [(&str, Maker); 2] =
-    [("--store", position::stored::records), ("--store-dice", |_| dice::stored())];
+pub const STORES: [(&str, Maker); 3] = [
+    ("--store", position::stored::records),
+    ("--store-dice", |_| dice::stored()),
+    ("--store-moves", moves::stored::records),
+];
 
 /// Writes the files that are asked for. Answers what it wrote, or what failed.
 pub fn run(options: &Options) -> Result<String, String> {

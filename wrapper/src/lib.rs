@@ -17,9 +17,11 @@
 
 #![no_std]
 
+mod moves;
 mod position;
 pub mod raw;
 mod refusal;
 
+pub use moves::{END_BYTES, MOST_ENDS, count, end, list};
 pub use position::{Board, Outcome, check, result, step, switch};
 pub use refusal::Refusal;

@@ -69,14 +69,14 @@ pub fn result(board: &Board) -> Result<Outcome, Refusal> {
 }
 
 #[cfg(test)]
-mod tests {
+pub(crate) mod tests {
     use super::*;
 
-    const START: Board = [
+    pub(crate) const START: Board = [
         0, -2, 0, 0, 0, 0, 5, 0, 3, 0, 0, 0, -5, 5, 0, 0, 0, -3, 0, -5, 0, 0, 0, 0, 2, 0,
     ];
 
-    fn board(entries: &[(usize, i8)]) -> Board {
+    pub(crate) fn board(entries: &[(usize, i8)]) -> Board {
         let mut board = [0; 26];
         for &(entry, checkers) in entries {
             board[entry] = checkers;
@@ -84,7 +84,7 @@ mod tests {
         board
     }
 
-    fn number<T>(answer: Result<T, Refusal>) -> Option<u8> {
+    pub(crate) fn number<T>(answer: Result<T, Refusal>) -> Option<u8> {
         answer.err().map(|refusal| refusal.number)
     }
 

@@ -2,9 +2,25 @@
 //! lend the memory themselves.
 //!
 //! Each answers the refusal number (0: none) in the low byte and a value above it, and writes
-//! `out` only where it refuses nothing.
+//! `out` or `list` only where it refuses nothing.
 
 use crate::Board;
+
+/// The ends of a roll, 26 bytes each, to `list`; their number, as the value.
+pub fn munchalep_list(board: &Board, die1: usize, die2: usize, list: &mut [u8]) -> u64 {
+    unsafe extern "C" {
+        fn munchalep_list(
+            board: &Board,
+            die1: usize,
+            die2: usize,
+            list: *mut u8,
+            length: usize,
+        ) -> u64;
+    }
+    // SAFETY: this is the header's declaration. A slice's pointer is not null, even where its
+    // length is 0, and `length` bytes from there on are lent for the call alone.
+    unsafe { munchalep_list(board, die1, die2, list.as_mut_ptr(), list.len()) }
+}
 
 // SAFETY: these are the header's declarations. A reference is not null and the array types fix the
 // lengths; a `&mut` overlaps nothing else. The header asks no more.
@@ -20,4 +36,16 @@ unsafe extern "C" {
 
     /// The number of the result or phase, as the value.
     pub safe fn munchalep_result(board: &Board) -> u64;
+
+    /// The number of ends of a roll, as the value.
+    pub safe fn munchalep_count(board: &Board, die1: usize, die2: usize) -> u64;
+
+    /// The end with a number, to `out`.
+    pub safe fn munchalep_end(
+        board: &Board,
+        die1: usize,
+        die2: usize,
+        number: usize,
+        out: &mut Board,
+    ) -> u64;
 }

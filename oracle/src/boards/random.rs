@@ -9,7 +9,7 @@ use std::ops::RangeInclusive;
 type Maker = fn(&mut Rng) -> Board;
 
 /// The kinds, by name.
-pub const KINDS: [(&str, Maker); 14] = [
+pub const KINDS: [(&str, Maker); 15] = [
     ("from a game", from_a_game),
     ("scattered", scattered),
     ("all on the board", all_on_the_board),
@@ -24,6 +24,7 @@ pub const KINDS: [(&str, Maker); 14] = [
     ("damaged: bars", wrong_bars),
     ("damaged: sums wrap", sums_wrap),
     ("damaged: any bytes", any_bytes),
+    ("many ends", many_ends),
 ];
 
 const POINTS: RangeInclusive<usize> = 1..=24;
@@ -215,4 +216,16 @@ fn any_bytes(rng: &mut Rng) -> Board {
         let byte = rng.next() as i8;
         if rng.below(26) < zeros { 0 } else { byte }
     })
+}
+
+/// x on many points and o on few, so that a roll has many ends.
+fn many_ends(rng: &mut Rng) -> Board {
+    let mut board = [0; 26];
+    for _ in 0..rng.between(10, 15) {
+        let free: Vec<usize> = POINTS.filter(|&i| board[i] == 0).collect();
+        board[rng.pick(&free)] = X;
+    }
+    let o = rng.between(1, 4);
+    put(&mut board, rng, O, o, O_ENTRIES);
+    board
 }
