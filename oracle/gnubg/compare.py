@@ -115,7 +115,7 @@ class Comparison:
         yield "the same:"
         for call, number in sorted(self.same.items()):
             yield f"{number:>10,}  {call}"
-        yield "meant to differ, each with the smallest input:"
+        yield "meant to differ, each with the smallest key met:"
         for difference, met in sorted(self.meant.items()):
             key, sides = min(met, key=smallness)
             yield f"{len(met):>10,}  {difference}"

@@ -1,7 +1,7 @@
 //! Boards and keys with the library's answers, to be held to GNU Backgammon by `oracle/gnubg/run`.
 //! They are records like those of [`super::stored`], on all of which the sides agree.
 
-use super::{made, stored};
+use super::{document, made, stored};
 use crate::boards::{kinds, sample};
 use crate::difference::Difference;
 use crate::plain;
@@ -15,11 +15,14 @@ const OF_KIND: usize = 12_000;
 /// One board in this many has each of its key's bits turned round.
 const DAMAGED: usize = 200;
 
-/// The records of accepted boards, their keys, and keys made from them.
+/// The records of refused keys of the document, of accepted boards, and of keys made from them.
 pub fn records(seed: u64) -> Result<Vec<u8>, Difference> {
     let mut rng = Rng::new(seed, u64::MAX);
     let mut met = HashSet::new();
     let mut records = Vec::new();
+    for (key, _) in document::refused() {
+        records.push(stored::of_key(&key)?);
+    }
     for board in boards(seed) {
         if plain::check(&board).is_err() || !met.insert(board) {
             continue;
