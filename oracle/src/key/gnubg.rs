@@ -1,5 +1,6 @@
-//! Boards and keys with the library's answers, to be held to GNU Backgammon by `oracle/gnubg/run`.
-//! They are records like those of [`super::stored`], on all of which the sides agree.
+//! Boards and keys with the library's answers, to be held to GNU Backgammon by
+//! `oracle/gnubg/run-keys`. They are records like those of [`super::stored`], on all of which the
+//! sides agree.
 
 use super::{document, made, stored};
 use crate::boards::{kinds, sample};

@@ -1,4 +1,4 @@
-"""Holds stored keys to GNU Backgammon, in the Python inside it. `oracle/gnubg/run` starts it.
+"""Holds stored keys to GNU Backgammon, in the Python inside it. `oracle/gnubg/run-keys` starts it.
 
 MUNCHALEP_KEYS names the file, records of 45 bytes as oracle/src/key/stored.rs lays them out.
 MUNCHALEP_REPORT names the report. Its last line is "no other difference" where each answer is the
