@@ -122,6 +122,30 @@ static void ends(void)
     print_ends(list, 2);
 }
 
+/* Prints a key's bytes in hex. */
+static void print_key(const uint8_t key[MUNCHALEP_KEY_BYTES])
+{
+    int i;
+
+    printf("    key:");
+    for (i = 0; i < MUNCHALEP_KEY_BYTES; i++)
+        printf(" %02X", key[i]);
+    printf("\n");
+}
+
+static void keys(void)
+{
+    int8_t out[26] = {0};
+    uint8_t key[MUNCHALEP_KEY_BYTES] = {0};
+
+    print_refusal("start, key", munchalep_key(start, key));
+    print_key(key);
+    print_answer("board of that key", munchalep_board_of_key(key, out), out);
+    /* A 1 in the place of its last 0 is a sixteenth checker of x. `out` still has the start board. */
+    key[9] |= 0x80;
+    print_answer("board of the key ending in B0", munchalep_board_of_key(key, out), out);
+}
+
 int main(void)
 {
     check();
@@ -129,5 +153,6 @@ int main(void)
     steps();
     result();
     ends();
+    keys();
     return 0;
 }

@@ -9,14 +9,14 @@
  * Nothing has to hold of a board or a number before a call: every function
  * takes any bytes and any numbers, and answers or refuses. Pointers are not
  * null, each points to as many entries as its parameter says, and what a
- * function writes (`out`, `list`) does not overlap what it reads (`board`).
+ * function writes does not overlap what it reads.
  *
  * Every function answers one uint64_t. Its low byte is the refusal number, 0
  * where nothing is refused; the 56 bits above it are a value, which each
  * function below describes. munchalep_refusal_of() and munchalep_value_of()
- * take the two apart. A board that is answered goes to `out`, the ends of a
- * roll go to `list`; a refusal leaves both as they were. Where several refusals
- * apply, the one named first is given.
+ * take the two apart. A board that is answered goes to `out`, a key to `key`,
+ * the ends of a roll go to `list`; a refusal leaves them as they were. Where
+ * several refusals apply, the one named first is given.
  *
  * No function keeps anything between calls, so threads may call them at once.
  */
@@ -76,6 +76,9 @@ enum munchalep_refusal {
 /* Bytes of an end in a list, and the most ends that a roll can have. */
 #define MUNCHALEP_END_BYTES 26
 #define MUNCHALEP_MOST_ENDS 17550
+
+/* Bytes of a Position ID key. */
+#define MUNCHALEP_KEY_BYTES 10
 
 /* What munchalep_result() says of a board, from x's side. */
 enum munchalep_outcome {
@@ -148,6 +151,19 @@ uint64_t munchalep_count(const int8_t board[26], size_t die1, size_t die2);
  */
 uint64_t munchalep_end(const int8_t board[26], size_t die1, size_t die2, size_t number,
                        int8_t out[26]);
+
+/*
+ * The board's key, to `key`: the ten bytes that GNU Backgammon's Position ID
+ * spells in base64. Different boards have different keys. Refuses 1, 2, 3, 4.
+ * The value is 0.
+ */
+uint64_t munchalep_key(const int8_t board[26], uint8_t key[10]);
+
+/*
+ * The board that has the key, to `out`. Any ten bytes may be given; those that
+ * are no board's key are refused. Refuses 15, 16, 17, 18. The value is 0.
+ */
+uint64_t munchalep_board_of_key(const uint8_t key[10], int8_t out[26]);
 
 #ifdef __cplusplus
 }

@@ -1,18 +1,48 @@
-//! What an entry that takes a board answers: its packed number, and what it did to lent memory.
+//! What an entry that takes a board or a key answers: its packed number, and what it did to lent
+//! memory.
 
-use munchalep::Board;
+use munchalep::{Board, Key};
 use std::fmt;
 use std::hint::black_box;
 
 /// What stands in lent memory before a call. No accepted board has such an entry.
 pub const PATTERN: i8 = 0x55;
 
+/// What a call may be lent to write to: a board or a key.
+pub trait Lendable: Copy + PartialEq {
+    /// How it stands before a call; no answer is the same.
+    const BEFORE: Self;
+
+    /// An answer, or what else it was changed to, as text.
+    fn text(&self) -> String;
+}
+
+impl Lendable for Board {
+    const BEFORE: Board = [PATTERN; 26];
+
+    fn text(&self) -> String {
+        if self.contains(&PATTERN) {
+            return format!("IN PART {self:?}");
+        }
+        BoardText(self).to_string()
+    }
+}
+
+impl Lendable for Key {
+    // It has forty 1s, a key at most thirty.
+    const BEFORE: Key = [PATTERN as u8; 10];
+
+    fn text(&self) -> String {
+        KeyText(self).to_string()
+    }
+}
+
 /// The answer to one call.
 #[derive(Clone, Copy, PartialEq, Eq)]
-pub struct Answer {
+pub struct Answer<Out = Board> {
     pub packed: u64,
     /// What was written to `out`; none where it is as it was.
-    pub out: Option<Board>,
+    pub out: Option<Out>,
     /// Whether a lent byte outside `out` changed.
     pub strayed: bool,
 }
@@ -20,25 +50,31 @@ pub struct Answer {
 impl Answer {
     /// The answer of an entry that writes a board.
     pub fn of_board(board: Result<Board, u8>) -> Answer {
-        Answer { out: board.ok(), ..Answer::of_value(board.map(|_| 0)) }
+        Answer::of_written(board)
     }
 
     /// The answer of an entry that writes nothing.
     pub fn of_value(value: Result<u8, u8>) -> Answer {
-        let packed = match value {
-            Ok(value) => u64::from(value) << 8,
-            Err(refusal) => u64::from(refusal),
-        };
-        Answer { packed, out: None, strayed: false }
+        Answer { packed: packed(value), out: None, strayed: false }
+    }
+}
+
+impl<Out: Lendable> Answer<Out> {
+    /// The answer of an entry that writes, its value 0.
+    pub fn of_written(written: Result<Out, u8>) -> Answer<Out> {
+        Answer { packed: packed(written.map(|_| 0)), out: written.ok(), strayed: false }
     }
 
-    /// The answer of a call that is given a board and lent `out`.
-    pub fn of_call(board: &Board, call: impl FnOnce(&Board, &mut Board) -> u64) -> Answer {
-        let mut lent = Lent::with(board);
+    /// The answer of a call that is given a board or a key and lent `out`.
+    pub fn of_call<Given: Copy + PartialEq>(
+        given: &Given,
+        call: impl FnOnce(&Given, &mut Out) -> u64,
+    ) -> Answer<Out> {
+        let mut lent = Lent::with(given);
         let packed = call(&lent.given, &mut lent.out);
         // The compiler may take for granted that only `out` changed; it is to look.
         let lent = black_box(&mut lent);
-        let was = Lent::with(board);
+        let was = Lent::with(given);
         Answer {
             packed,
             out: (lent.out != was.out).then_some(lent.out),
@@ -47,25 +83,33 @@ impl Answer {
     }
 }
 
-/// Lent memory: the board given and the board to write, with guards that no call may touch. The
-/// odd lengths put both boards where nothing is aligned.
+/// A value or a refusal as an entry packs it.
+fn packed(value: Result<u8, u8>) -> u64 {
+    match value {
+        Ok(value) => u64::from(value) << 8,
+        Err(refusal) => u64::from(refusal),
+    }
+}
+
+/// Lent memory: what is given and what is to be written, with guards that no call may touch. The
+/// odd lengths put both where nothing is aligned.
 #[repr(C)]
-struct Lent {
+struct Lent<Given, Out> {
     before: [i8; 9],
-    given: Board,
+    given: Given,
     between: [i8; 9],
-    out: Board,
+    out: Out,
     after: [i8; 9],
 }
 
-impl Lent {
+impl<Given: Copy, Out: Lendable> Lent<Given, Out> {
     /// The memory before a call.
-    fn with(given: &Board) -> Lent {
+    fn with(given: &Given) -> Lent<Given, Out> {
         Lent {
             before: [PATTERN; 9],
             given: *given,
             between: [PATTERN; 9],
-            out: [PATTERN; 26],
+            out: Out::BEFORE,
             after: [PATTERN; 9],
         }
     }
@@ -75,14 +119,13 @@ impl Lent {
     }
 }
 
-impl fmt::Display for Answer {
+impl<Out: Lendable> fmt::Display for Answer<Out> {
     fn fmt(&self, f: &mut fmt::Formatter<'_>) -> fmt::Result {
         let (refusal, value) = unpacked(self.packed);
         write!(f, "refusal {refusal}, value {value}, ")?;
         match &self.out {
             None => write!(f, "out as it was")?,
-            Some(out) if out.contains(&PATTERN) => write!(f, "out IN PART {out:?}")?,
-            Some(out) => write!(f, "out {}", BoardText(out))?,
+            Some(out) => write!(f, "out {}", out.text())?,
         }
         if self.strayed {
             write!(f, ", BYTES OUTSIDE out CHANGED")?;
@@ -111,5 +154,14 @@ impl fmt::Display for BoardText<'_> {
             write!(f, " {i}:{}", checkers.unsigned_abs())?;
         }
         Ok(())
+    }
+}
+
+/// A key as text: its bytes in hex.
+pub struct KeyText<'a>(pub &'a Key);
+
+impl fmt::Display for KeyText<'_> {
+    fn fmt(&self, f: &mut fmt::Formatter<'_>) -> fmt::Result {
+        self.0.iter().try_for_each(|byte| write!(f, "{byte:02X}"))
     }
 }

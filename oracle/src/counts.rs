@@ -15,10 +15,13 @@ pub enum Entry {
     List,
     Count,
     End,
+    Key,
+    BoardOfKey,
 }
 
 /// Their names, in the enum's order.
-const ENTRIES: [&str; 7] = ["check", "switch", "step", "result", "list", "count", "end"];
+const ENTRIES: [&str; 9] =
+    ["check", "switch", "step", "result", "list", "count", "end", "key", "board_of_key"];
 
 const REFUSALS: usize = 37;
 const RESULTS: usize = 8;

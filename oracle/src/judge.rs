@@ -1,9 +1,11 @@
 //! wildbg's answers, inside the domain where it decides. An answer is `None` outside that domain,
 //! where wildbg is not called: it would panic, or answer for something that is not a board.
 
+use base64::Engine;
+use base64::engine::general_purpose::STANDARD_NO_PAD;
 use engine::dice::Dice;
 use engine::position::{GamePhase, GameResult, OngoingPhase, Position};
-use munchalep::Board;
+use munchalep::{Board, Key};
 
 /// What wildbg makes of a board.
 pub enum Judge {
@@ -62,6 +64,10 @@ impl Judge {
         })
     }
 
+    pub fn key(&self) -> Option<Result<Key, u8>> {
+        self.answer(|position| Some(Ok(key_of_id(&position.position_id()))))
+    }
+
     /// The refusal of a board that wildbg refuses, else what is said of its position.
     fn answer<T>(
         &self,
@@ -73,6 +79,18 @@ impl Judge {
             Judge::Accepts(position) => of_position(position),
         }
     }
+}
+
+/// The board of a key. wildbg decides on those of accepted boards, and has base64 text for a key.
+pub fn board_of_key(key: &Key) -> Board {
+    Position::from_id(&STANDARD_NO_PAD.encode(key)).into()
+}
+
+fn key_of_id(id: &str) -> Key {
+    let mut key = [0; 10];
+    let length = STANDARD_NO_PAD.decode_slice(id, &mut key).expect("an ID is base64 of a key");
+    assert_eq!(length, key.len(), "an ID has ten bytes: {id}");
+    key
 }
 
 /// Whether both sums that `try_from` takes stay inside i8.

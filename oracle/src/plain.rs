@@ -2,8 +2,10 @@
 //! inside wildbg's domain, and the only one outside it. A refusal is an `Err` with its number.
 
 mod ends;
+pub mod key;
 
 pub use ends::{ends, play};
+pub use key::{board_of_key, key};
 
 use crate::boards::board;
 use munchalep::Board;

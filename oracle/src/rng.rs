@@ -1,5 +1,7 @@
 //! Random numbers that a seed decides, the same on every machine.
 
+use munchalep::Board;
+
 /// SplitMix64.
 pub struct Rng(u64);
 
@@ -7,6 +9,14 @@ impl Rng {
     /// Stream `number` of a seed: streams of one seed have nothing to do with each other.
     pub fn new(seed: u64, number: u64) -> Rng {
         Rng(mixed(mixed(seed) ^ number))
+    }
+
+    /// The stream that a board decides.
+    pub fn of_board(board: &Board) -> Rng {
+        let number = |number: u64, &entry: &i8| {
+            number.wrapping_mul(0x100_0000_01B3) ^ u64::from(entry as u8)
+        };
+        Rng::new(0, board.iter().fold(0, number))
     }
 
     pub fn next(&mut self) -> u64 {

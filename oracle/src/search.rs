@@ -4,7 +4,7 @@ use crate::boards::{Boards, kinds};
 use crate::counts::{Counts, grouped, tables};
 use crate::difference::Difference;
 use crate::options::Options;
-use crate::{moves, position};
+use crate::{key, moves, position};
 use munchalep::Board;
 use std::sync::atomic::{AtomicBool, AtomicU64, AtomicUsize, Ordering::Relaxed};
 use std::sync::{Mutex, OnceLock};
@@ -16,10 +16,12 @@ use std::time::{Duration, Instant};
 pub enum Group {
     Position,
     Moves,
+    Key,
 }
 
 /// All groups, by the names that `--only` takes.
-pub const GROUPS: [(&str, Group); 2] = [("position", Group::Position), ("moves", Group::Moves)];
+pub const GROUPS: [(&str, Group); 3] =
+    [("position", Group::Position), ("moves", Group::Moves), ("key", Group::Key)];
 
 /// Compares the entries of some groups, with memory of its own.
 struct Comparison<'a> {
@@ -32,6 +34,7 @@ impl Comparison<'_> {
         self.groups.iter().try_for_each(|group| match group {
             Group::Position => position::compare(board, counts),
             Group::Moves => self.lists.compare(board, counts),
+            Group::Key => key::compare(board, counts),
         })
     }
 }
@@ -41,6 +44,7 @@ fn compare_document(groups: &[Group]) -> Result<(), Difference> {
     groups.iter().try_for_each(|group| match group {
         Group::Position => position::document::compare(),
         Group::Moves => moves::document::compare(),
+        Group::Key => key::document::compare(),
     })
 }
 

@@ -2,18 +2,20 @@
 
 use crate::difference::Difference;
 use crate::options::Options;
-use crate::{dice, moves, position};
+use crate::{dice, key, moves, position};
 use std::fs;
 
 /// Makes the data of a seed.
 pub type Maker = fn(u64) -> Result<Vec<u8>, Difference>;
 
 /// The options that store data, each with its maker.
-pub const STORES: [(&str, Maker); 4] = [
+pub const STORES: [(&str, Maker); 6] = [
     ("--store", position::stored::records),
     ("--store-dice", |_| dice::stored()),
     ("--store-moves", moves::stored::records),
     ("--store-lists", moves::stored::lists),
+    ("--store-key", key::stored::records),
+    ("--store-gnubg", key::gnubg::records),
 ];
 
 /// Writes the files that are asked for. Answers what it wrote, or what failed.

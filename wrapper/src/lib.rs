@@ -17,11 +17,13 @@
 
 #![no_std]
 
+mod key;
 mod moves;
 mod position;
 pub mod raw;
 mod refusal;
 
+pub use key::{KEY_BYTES, Key, board_of_key, key};
 pub use moves::{END_BYTES, MOST_ENDS, count, end, list};
 pub use position::{Board, Outcome, check, result, step, switch};
 pub use refusal::Refusal;

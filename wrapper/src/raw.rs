@@ -1,10 +1,10 @@
 //! The entries of `include/munchalep.h` as they are, for callers that want the packed answer or
 //! lend the memory themselves.
 //!
-//! Each answers the refusal number (0: none) in the low byte and a value above it, and writes
-//! `out` or `list` only where it refuses nothing.
+//! Each answers the refusal number (0: none) in the low byte and a value above it, and writes to
+//! lent memory only where it refuses nothing.
 
-use crate::Board;
+use crate::{Board, Key};
 
 /// The ends of a roll, 26 bytes each, to `list`; their number, as the value.
 pub fn munchalep_list(board: &Board, die1: usize, die2: usize, list: &mut [u8]) -> u64 {
@@ -48,4 +48,10 @@ unsafe extern "C" {
         number: usize,
         out: &mut Board,
     ) -> u64;
+
+    /// The board's key, to `key`.
+    pub safe fn munchalep_key(board: &Board, key: &mut Key) -> u64;
+
+    /// The board that has the key, to `out`.
+    pub safe fn munchalep_board_of_key(key: &Key, out: &mut Board) -> u64;
 }

@@ -35,7 +35,7 @@ impl Lists {
     /// times its limits. The board decides what is left to chance.
     pub fn compare(&mut self, board: &Board, counts: &mut Counts) -> Result<(), Difference> {
         let judge = Judge::of(board);
-        let mut rng = Rng::new(0, number_of(board));
+        let mut rng = Rng::of_board(board);
         let limits = rng.below(21 * LIMITS);
         for (roll, &(_, byte)) in plain::rolls().iter().enumerate() {
             let (large, small) = (usize::from(byte / 16), usize::from(byte % 16));
@@ -116,11 +116,4 @@ fn difference(board: &Board, dice: (usize, usize), need: usize) -> Difference {
         Some(case) => Difference::of(case),
         None => Difference(format!("DIFFERENCE that does not come again: {board:?}, {dice:?}")),
     }
-}
-
-/// A number that the board decides.
-fn number_of(board: &Board) -> u64 {
-    board
-        .iter()
-        .fold(0, |number, &entry| number.wrapping_mul(0x100_0000_01B3) ^ u64::from(entry as u8))
 }
