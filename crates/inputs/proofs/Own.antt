@@ -6,7 +6,7 @@ use Prim.Native.Nat.{ℕ, _+_, _-_, _≤_, _<_}
 use native.Mathlib.Omega.{arith}
 use lib.IntN.{ℤ, pos, natAbs, _+ℤ_, _-ℤ_}
 use lib.Dec.{T}
-use lib.Signed.{mag, nonNeg}
+use lib.Signed.{nonNeg}
 use mir.Syntax.{w8}
 use mir.Val.{SFits}
 use Rattle.ints.specs.Signed.{posPart, negPart}

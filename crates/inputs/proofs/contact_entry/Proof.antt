@@ -1,6 +1,6 @@
 -- `inputs::contact_entry` meets its contract: point 0 is x's bar, those below 25 are x's, the rest o's.
-use mathlib.Core.Path.{_≡_, sym, _∙_}
-use Prim.Native.Nat.{ℕ, _-_}
+use mathlib.Core.Path.{sym, _∙_}
+use Prim.Native.Nat.{_-_}
 use native.Mathlib.Omega.{arith}
 use Rattle.inputs.proofs.Own.{x-own, o-fits, o-own}
 use Rattle.inputs.proofs.Fours.{contact-bar, contact-x, contact-o}

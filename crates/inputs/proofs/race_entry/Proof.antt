@@ -1,6 +1,6 @@
 -- `inputs::race_entry` meets its contract: points below 23 are x's from 1 on, the rest o's from 2 on.
-use mathlib.Core.Path.{_≡_, sym, _∙_}
-use Prim.Native.Nat.{ℕ, _+_, _-_}
+use mathlib.Core.Path.{sym, _∙_}
+use Prim.Native.Nat.{_+_, _-_}
 use native.Mathlib.Omega.{arith}
 use Rattle.inputs.proofs.Own.{x-own, o-fits, o-own}
 use Rattle.inputs.proofs.Fours.{race-x, race-o}

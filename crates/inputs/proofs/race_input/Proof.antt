@@ -1,11 +1,11 @@
 -- `inputs::race_input` meets its contract: the refusals in their order, the two sides' checkers off, and the values of a point.
 use mathlib.Core.Path.{_≡_, sym, ap, _∙_}
-use Prim.Native.Nat.{ℕ, _+_, _-_, _*_, _/_, _%_, _≤_, _<_}
+use Prim.Native.Nat.{ℕ, _-_, _%_, _≤_}
 use native.Mathlib.Omega.{arith}
 use lib.ListN.{getD}
 use mir.Syntax.{w8}
 use Rattle.ints.proofs.Signed.{in-range, held-is}
-use Rattle.position.specs.Board.{checkers, xAll, oAll, Accepted, refusalOf}
+use Rattle.position.specs.Board.{checkers, Accepted, refusalOf}
 use Rattle.inputs.specs.Inputs.{whole, four, raceCounts, inputsOf, raceInputs}
 use Rattle.inputs.specs.Answers.{raceSize, given, raceInput}
 use Rattle.inputs.proofs.Fours.{length-race, input-four}
