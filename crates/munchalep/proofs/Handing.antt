@@ -2,12 +2,20 @@
 use mathlib.Core.Path.{_≡_, ap, _∙_}
 use mathlib.Core.List.{List}
 use Prim.Native.Nat.{ℕ}
+use lib.Ieee.{Float}
 use lib.IntN.{ℤ}
 use Rattle.position.specs.declared.BoardAnswer.{BoardAnswer}
-use Rattle.munchalep.specs.Lent.{after, Put}
+use Rattle.inputs.specs.Answers.{InputAnswer}
+use Rattle.munchalep.specs.Lent.{after, Put, inputNumber, inputAfter, PutInput}
 
 pub handed : {a b : BoardAnswer} {out out' : List ℤ} {r : ℕ} → Put a out r out' → a ≡ b → Put b out r out'
 handed {a} {b} {out} p e = record {
   number = p .number ∙ ap (λ (x : BoardAnswer). x .refused) e;
   lent = p .lent ∙ ap (λ (x : BoardAnswer). after (x .refused) (x .board) out) e;
+}
+
+pub handed-input : {a b : InputAnswer} {out out' : Float} {r : ℕ} → PutInput a out r out' → a ≡ b → PutInput b out r out'
+handed-input {a} {b} {out} p e = record {
+  number = p .number ∙ ap inputNumber e;
+  lent = p .lent ∙ ap (λ (x : InputAnswer). inputAfter x out) e;
 }

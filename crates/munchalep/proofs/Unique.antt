@@ -2,6 +2,7 @@
 use mathlib.Core.Path.{_≡_}
 use mathlib.Core.List.{List}
 use Prim.Native.Nat.{ℕ}
+use lib.Ieee.{Float}
 use lib.IntN.{ℤ}
 use lib.ListN.{length}
 use Rattle.ints.specs.Answer.{packed}
@@ -11,7 +12,8 @@ use Rattle.position.specs.Phase.{phaseAnswer}
 use Rattle.position.specs.declared.BoardAnswer.{BoardAnswer}
 use Rattle.moves.specs.Answers.{listAnswer, listedIn, countAnswer}
 use Rattle.key.specs.declared.KeyAnswer.{KeyAnswer}
-use Rattle.munchalep.specs.Lent.{Put, PutKey}
+use Rattle.inputs.specs.Answers.{InputAnswer, contactAnswer, contactLent, raceAnswer, raceLent}
+use Rattle.munchalep.specs.Lent.{Put, PutKey, PutInput}
 
 pub check-unique : (b : List ℤ) (r s : ℕ) → r ≡ refusalOf checkers b → s ≡ refusalOf checkers b → r ≡ s
 check-unique b r s p q = one-answer p q
@@ -33,3 +35,17 @@ list-unique b d1 d2 list r s l m p u q v = (one-answer p q, one-answer u v)
 
 pub count-unique : (b : List ℤ) (d1 d2 r s : ℕ) → r ≡ packed (countAnswer checkers b d1 d2) → s ≡ packed (countAnswer checkers b d1 d2) → r ≡ s
 count-unique b d1 d2 r s p q = one-answer p q
+
+pub contact-inputs-unique : (b : List ℤ) (inputs : List Float) (r s : ℕ) (l m : List Float)
+    → r ≡ packed (contactAnswer checkers b (length inputs)) → l ≡ contactLent checkers b inputs
+    → s ≡ packed (contactAnswer checkers b (length inputs)) → m ≡ contactLent checkers b inputs → (r ≡ s) × (l ≡ m)
+contact-inputs-unique b inputs r s l m p u q v = (one-answer p q, one-answer u v)
+
+pub race-inputs-unique : (b : List ℤ) (inputs : List Float) (r s : ℕ) (l m : List Float)
+    → r ≡ packed (raceAnswer checkers b (length inputs)) → l ≡ raceLent checkers b inputs
+    → s ≡ packed (raceAnswer checkers b (length inputs)) → m ≡ raceLent checkers b inputs → (r ≡ s) × (l ≡ m)
+race-inputs-unique b inputs r s l m p u q v = (one-answer p q, one-answer u v)
+
+-- of `munchalep_contact_input` and `munchalep_race_input`
+pub input-unique : (a : InputAnswer) (out : Float) (r s : ℕ) (v w : Float) → PutInput a out r v → PutInput a out s w → (r ≡ s) × (v ≡ w)
+input-unique a out r s v w p q = (one-answer (p .number) (q .number), one-answer (p .lent) (q .lent))

@@ -1,6 +1,8 @@
 // The C interface: thin functions over the proved crates, declared for C in include/munchalep.h.
-// Every function answers one number: the refusal's in the low byte, 0 for none, and 256 times the value above it. A board or a key
-// that is answered goes to an out parameter, which a refusal leaves as it was.
+// Every function answers one number: the refusal's in the low byte, 0 for none, and 256 times the value above it. A board, a
+// key or an input that is answered goes to an out parameter, which a refusal leaves as it was.
+use inputs::Filled;
+use inputs::Input;
 use moves::Counted;
 use moves::Listed;
 use position::BoardAnswer;
@@ -14,7 +16,8 @@ ghost use Rattle.position.specs.Phase.{phaseAnswer};
 ghost use Rattle.position.specs.Answers.{switchAnswer, stepAnswer, phaseTold};
 ghost use Rattle.moves.specs.Answers.{listTold, listAnswer, listedIn, countTold, countAnswer, endAnswer};
 ghost use Rattle.key.specs.Key.{keyAnswer, boardOfKeyAnswer};
-ghost use Rattle.munchalep.specs.Lent.{Put, PutKey};
+ghost use Rattle.inputs.specs.Answers.{filledTold, inputTold, contactAnswer, contactLent, contactInput, raceAnswer, raceLent, raceInput};
+ghost use Rattle.munchalep.specs.Lent.{Put, PutKey, PutInput};
 
 // The refusal of a board, 1 to 4, or 0.
 #[no_mangle]
@@ -104,6 +107,61 @@ pub extern "C" fn munchalep_end(
     ensures { λ r. ⌜ Put (endAnswer checkers (now (board .entry)) die1 die2 number) (now (out .entry)) r (now (out .exit)) ⌝ }
 {
     put(moves::end(*board, die1, die2, number), out)
+}
+
+// Fills exactly 202 values with the contact net's inputs; any other number of them stays as it was.
+#[no_mangle]
+pub extern "C" fn munchalep_contact_inputs(board: &[i8; 26], inputs: &mut [f32]) -> u64
+    ensures { λ r. ⌜ (r ≡ packed (contactAnswer checkers (now (board .entry)) (length (now (inputs .entry))))) × (now (inputs .exit) ≡ contactLent checkers (now (board .entry)) (now (inputs .entry))) ⌝ }
+{
+    filled_number(inputs::contact_inputs(*board, inputs))
+}
+
+// The same of the race net and exactly 186 values.
+#[no_mangle]
+pub extern "C" fn munchalep_race_inputs(board: &[i8; 26], inputs: &mut [f32]) -> u64
+    ensures { λ r. ⌜ (r ≡ packed (raceAnswer checkers (now (board .entry)) (length (now (inputs .entry))))) × (now (inputs .exit) ≡ raceLent checkers (now (board .entry)) (now (inputs .entry))) ⌝ }
+{
+    filled_number(inputs::race_inputs(*board, inputs))
+}
+
+// The contact net's input that has the place.
+#[no_mangle]
+pub extern "C" fn munchalep_contact_input(board: &[i8; 26], place: usize, out: &mut f32) -> u64
+    ensures { λ r. ⌜ PutInput (contactInput checkers (now (board .entry)) place) (now (out .entry)) r (now (out .exit)) ⌝ }
+{
+    put_input(inputs::contact_input(*board, place), out)
+}
+
+// The race net's input that has the place.
+#[no_mangle]
+pub extern "C" fn munchalep_race_input(board: &[i8; 26], place: usize, out: &mut f32) -> u64
+    ensures { λ r. ⌜ PutInput (raceInput checkers (now (board .entry)) place) (now (out .entry)) r (now (out .exit)) ⌝ }
+{
+    put_input(inputs::race_input(*board, place), out)
+}
+
+// What each case of filling answers: 0, or the refusal's number.
+fn filled_number(answer: Filled) -> u64
+    ensures { λ r. ⌜ r ≡ packed (filledTold answer) ⌝ }
+{
+    match answer {
+        Filled::Done => 0,
+        Filled::Refused(number) => number as u64,
+    }
+}
+
+// The number of one input's answer; its value, if it has one, goes to `out`.
+fn put_input(answer: Input, out: &mut f32) -> u64
+    ensures { λ r. ⌜ PutInput (inputTold answer) (now (out .entry)) r (now (out .exit)) ⌝ }
+{
+    match answer {
+        Input::Value(value) => {
+            *out = value;
+            0
+        }
+        Input::Refused(number) => number as u64,
+    }
 }
 
 // What each case of a listing answers: 256 times the number of ends, and 10 beside it where the list is short; or the refusal's number.
