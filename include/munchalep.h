@@ -165,6 +165,26 @@ uint64_t munchalep_key(const int8_t board[26], uint8_t key[10]);
  */
 uint64_t munchalep_board_of_key(const uint8_t key[10], int8_t out[26]);
 
+/* Values that a neural net takes of a board. */
+#define MUNCHALEP_CONTACT_INPUTS 202
+#define MUNCHALEP_RACE_INPUTS 186
+
+/*
+ * The inputs of the contact net, to `inputs`, or those of the race net: `length`
+ * is the number of floats lent and must be exactly MUNCHALEP_CONTACT_INPUTS, or
+ * MUNCHALEP_RACE_INPUTS. Any accepted board may be given to either, finished and
+ * empty ones too. Refuses 1, 2, 3, 4, 13. The value is 0.
+ */
+uint64_t munchalep_contact_inputs(const int8_t board[26], float *inputs, size_t length);
+uint64_t munchalep_race_inputs(const int8_t board[26], float *inputs, size_t length);
+
+/*
+ * The one input that has a place in them, counted from 0, to `out`. Refuses 1,
+ * 2, 3, 4, 14. The value is 0.
+ */
+uint64_t munchalep_contact_input(const int8_t board[26], size_t place, float *out);
+uint64_t munchalep_race_input(const int8_t board[26], size_t place, float *out);
+
 #ifdef __cplusplus
 }
 #endif

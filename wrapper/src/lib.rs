@@ -17,12 +17,16 @@
 
 #![no_std]
 
+mod inputs;
 mod key;
 mod moves;
 mod position;
 pub mod raw;
 mod refusal;
 
+pub use inputs::{
+    CONTACT_INPUTS, RACE_INPUTS, contact_input, contact_inputs, race_input, race_inputs,
+};
 pub use key::{KEY_BYTES, Key, board_of_key, key};
 pub use moves::{END_BYTES, MOST_ENDS, count, end, list};
 pub use position::{Board, Outcome, check, result, step, switch};

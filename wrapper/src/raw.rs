@@ -22,6 +22,24 @@ pub fn munchalep_list(board: &Board, die1: usize, die2: usize, list: &mut [u8]) 
     unsafe { munchalep_list(board, die1, die2, list.as_mut_ptr(), list.len()) }
 }
 
+/// The inputs of the contact net, to `inputs`.
+pub fn munchalep_contact_inputs(board: &Board, inputs: &mut [f32]) -> u64 {
+    unsafe extern "C" {
+        fn munchalep_contact_inputs(board: &Board, inputs: *mut f32, length: usize) -> u64;
+    }
+    // SAFETY: as of `munchalep_list`, with floats lent.
+    unsafe { munchalep_contact_inputs(board, inputs.as_mut_ptr(), inputs.len()) }
+}
+
+/// The inputs of the race net, to `inputs`.
+pub fn munchalep_race_inputs(board: &Board, inputs: &mut [f32]) -> u64 {
+    unsafe extern "C" {
+        fn munchalep_race_inputs(board: &Board, inputs: *mut f32, length: usize) -> u64;
+    }
+    // SAFETY: as of `munchalep_list`, with floats lent.
+    unsafe { munchalep_race_inputs(board, inputs.as_mut_ptr(), inputs.len()) }
+}
+
 // SAFETY: these are the header's declarations. A reference is not null and the array types fix the
 // lengths; a `&mut` overlaps nothing else. The header asks no more.
 unsafe extern "C" {
@@ -54,4 +72,10 @@ unsafe extern "C" {
 
     /// The board that has the key, to `out`.
     pub safe fn munchalep_board_of_key(key: &Key, out: &mut Board) -> u64;
+
+    /// The contact net's input that has the place, to `out`.
+    pub safe fn munchalep_contact_input(board: &Board, place: usize, out: &mut f32) -> u64;
+
+    /// The race net's input that has the place, to `out`.
+    pub safe fn munchalep_race_input(board: &Board, place: usize, out: &mut f32) -> u64;
 }
