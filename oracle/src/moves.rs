@@ -101,6 +101,10 @@ fn limit_calls(ends: usize) -> Vec<Call> {
     };
     let mut lengths: Vec<usize> = [need, need + 1, need.saturating_sub(1)].map(around).concat();
     lengths.extend([0, 1, 25, 26, need / 2]);
+    if ends > 0 {
+        // A list with room for any is written without a count.
+        lengths.extend([ROOM - 1, ROOM, ROOM + 1]);
+    }
     lengths.sort_unstable();
     lengths.dedup();
 

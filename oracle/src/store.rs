@@ -9,10 +9,11 @@ use std::fs;
 pub type Maker = fn(u64) -> Result<Vec<u8>, Difference>;
 
 /// The options that store data, each with its maker.
-pub const STORES: [(&str, Maker); 5] = [
+pub const STORES: [(&str, Maker); 6] = [
     ("--store", position::stored::records),
     ("--store-dice", |_| dice::stored()),
     ("--store-moves", moves::stored::records),
+    ("--store-lists", moves::stored::lists),
     ("--store-key", key::stored::records),
     ("--store-gnubg", key::gnubg::records),
 ];

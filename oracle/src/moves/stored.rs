@@ -19,11 +19,12 @@ use super::answer::Answer;
 use super::{Call, Ends, MovesCase, NO_ENDS, ROOM, document, no_roll};
 use crate::answer::PATTERN;
 use crate::boards::{kinds, sample};
-use crate::difference::{Answers, Difference};
+use crate::difference::{Answers, Case, Difference};
 use crate::plain;
 use crate::rng::Rng;
-use munchalep::Board;
+use munchalep::{Board, END_BYTES};
 use std::collections::{BTreeSet, HashSet};
+use std::fmt::Write;
 
 /// Boards of each kind, each with two rolls; and of them those that get dice outside 1 to 6 too.
 const OF_KIND: usize = 105;
@@ -36,11 +37,10 @@ pub fn records(seed: u64) -> Result<Vec<u8>, Difference> {
     for (board, dice) in inputs(seed, &mut rng) {
         let ends = Ends::of(&board, dice);
         let number = some_number(ends.number(), &mut rng);
-        let [count, list, end] = [Call::Count, Call::List { length: ROOM }, Call::End { number }]
-            .map(|call| {
-                let case = MovesCase { board, dice, call };
-                agreed(case, case.answers_beside(&ends))
-            });
+        let [count, list, end] = [Call::Count, Call::list(ROOM), Call::end(number)].map(|call| {
+            let case = MovesCase { board, dice, call };
+            agreed(case, case.answers_beside(&ends))
+        });
         let (count, list, end) = (count?, list?, end?);
         refusals.extend([count.packed as u8, end.packed as u8]);
         records.extend(board.map(|entry| entry as u8));
@@ -53,6 +53,30 @@ pub fn records(seed: u64) -> Result<Vec<u8>, Difference> {
     }
     assert_eq!(refusals, BTreeSet::from([0, 1, 2, 3, 4, 5, 6, 7, 11]), "an answer is missing");
     Ok(records)
+}
+
+/// The whole lists of the same sample where a play is not refused, as text for a program that knows
+/// other rules of play (oracle/gnubg): a line has the board, the dice and the ends, boards as 52
+/// digits each, in hex.
+pub fn lists(seed: u64) -> Result<Vec<u8>, Difference> {
+    let mut text = String::new();
+    for (board, dice) in inputs(seed, &mut Rng::new(seed, u64::MAX)) {
+        let case = MovesCase { board, dice, call: Call::list(ROOM) };
+        let list = agreed(case, case.answers())?;
+        if list.packed as u8 == 0 {
+            let board = hex(&board.map(|entry| entry as u8));
+            let ends: Vec<String> = list.written.chunks(END_BYTES).map(hex).collect();
+            text += &format!("{board} {} {} {}\n", dice.0, dice.1, ends.join(" "));
+        }
+    }
+    Ok(text.into_bytes())
+}
+
+fn hex(bytes: &[u8]) -> String {
+    bytes.iter().fold(String::new(), |mut text, byte| {
+        write!(text, "{byte:02x}").expect("a string takes all");
+        text
+    })
 }
 
 /// What the sides answer to a case, if it is the same.
