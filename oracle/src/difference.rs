@@ -51,7 +51,7 @@ impl Difference {
     }
 
     /// Reports a case that is answered otherwise than `says`, which the document itself gives.
-    pub fn from_document<C: Case>(case: &C, says: &C::Answer) -> Difference {
+    fn from_document<C: Case>(case: &C, says: &C::Answer) -> Difference {
         let text = text(case);
         Difference(format!("DIFFERENCE from document 01:\n{text}\n  document  {says}"))
     }
@@ -61,6 +61,18 @@ impl Display for Difference {
     fn fmt(&self, f: &mut fmt::Formatter<'_>) -> fmt::Result {
         f.write_str(&self.0)
     }
+}
+
+/// Holds the sides to each other on one case, and to the answer that the document itself gives.
+pub fn told<C: Case>(case: C, says: C::Answer) -> Result<(), Difference> {
+    let answers = case.answers();
+    if !answers.agree() {
+        return Err(Difference::of(case));
+    }
+    if answers.decided() != says {
+        return Err(Difference::from_document(&case, &says));
+    }
+    Ok(())
 }
 
 /// Goes on to a smaller case as long as the answers to one of them differ too.

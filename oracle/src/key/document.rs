@@ -4,7 +4,7 @@
 use super::{ReadCase, WriteCase};
 use crate::answer::Answer;
 use crate::boards::board;
-use crate::difference::{Case, Difference};
+use crate::difference::{Difference, told};
 use crate::plain;
 use munchalep::{Board, Key};
 
@@ -59,18 +59,6 @@ pub fn compare() -> Result<(), Difference> {
     refused()
         .into_iter()
         .try_for_each(|(key, refusal)| told(ReadCase { key }, Answer::of_board(Err(refusal))))
-}
-
-/// Compares one case, whose answer is known.
-fn told<C: Case>(case: C, says: C::Answer) -> Result<(), Difference> {
-    let answers = case.answers();
-    if !answers.agree() {
-        return Err(Difference::of(case));
-    }
-    if answers.decided() != says {
-        return Err(Difference::from_document(&case, &says));
-    }
-    Ok(())
 }
 
 /// The key that has these bytes, the first one highest.

@@ -4,7 +4,7 @@
 use super::answer::Answer;
 use super::{Call, MovesCase};
 use crate::boards::board;
-use crate::difference::{Case, Difference};
+use crate::difference::{Difference, told};
 use crate::plain;
 use munchalep::{Board, END_BYTES};
 
@@ -21,16 +21,7 @@ pub(super) fn rolls() -> Vec<(Board, (usize, usize))> {
 
 /// Holds the sides to each other, and to the document's own answers.
 pub fn compare() -> Result<(), Difference> {
-    for (case, says) in facts() {
-        let answers = case.answers();
-        if !answers.agree() {
-            return Err(Difference::of(case));
-        }
-        if answers.decided() != says {
-            return Err(Difference::from_document(&case, &says));
-        }
-    }
-    Ok(())
+    facts().into_iter().try_for_each(|(case, says)| told(case, says))
 }
 
 fn facts() -> Vec<Fact> {

@@ -4,7 +4,7 @@
 use super::{Call, PositionCase};
 use crate::answer::Answer;
 use crate::boards::board;
-use crate::difference::{Case, Difference};
+use crate::difference::{Difference, told};
 use crate::plain;
 use munchalep::Board;
 
@@ -26,16 +26,7 @@ pub fn boards() -> Vec<Board> {
 
 /// Holds the sides to each other, and to the document's own answers.
 pub fn compare() -> Result<(), Difference> {
-    for (case, says) in facts() {
-        let answers = case.answers();
-        if !answers.agree() {
-            return Err(Difference::of(case));
-        }
-        if answers.decided() != says {
-            return Err(Difference::from_document(&case, &says));
-        }
-    }
-    Ok(())
+    facts().into_iter().try_for_each(|(case, says)| told(case, says))
 }
 
 fn facts() -> Vec<Fact> {
