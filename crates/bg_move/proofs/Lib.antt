@@ -1,0 +1,2 @@
+-- Laws of the steps behind an end, each file by what it is about.
+pub mod Tried

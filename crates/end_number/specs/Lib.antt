@@ -1,0 +1,2 @@
+-- The number of an end.
+pub mod Number
