@@ -1,0 +1,2 @@
+-- Laws of the game card, each file by what it is about.
+pub mod Tried
