@@ -1,0 +1,2 @@
+-- Laws of putting text into lent memory, and of the text itself.
+pub mod Writing

@@ -1,0 +1,3 @@
+-- The text of a card, and what putting a piece of text into lent memory does.
+pub mod Text
+pub mod Wrote

@@ -1,0 +1,2 @@
+// The text of a card, as the card program prints it.
+pub mod put;
