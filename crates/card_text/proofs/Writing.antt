@@ -2,7 +2,7 @@
 -- Assumes nothing.
 use mathlib.Core.Path.{_≡_, refl, ap, subst, _∙_}
 use mathlib.Core.List.{List, [], _∷_, _++_}
-use Prim.Native.Nat.{ℕ, zero, suc, _+_, _-_, _/_, _%_, _≤_, _<_}
+use Prim.Native.Nat.{ℕ, zero, suc, _+_, _-_, _*_, _/_, _%_, _≤_, _<_}
 use native.Mathlib.Numerals.{add-one, unary-clauses}
 use native.Mathlib.Omega.{arith}
 use borrow.Author.Tests.{lt-ltb, le-ltb}
@@ -104,3 +104,10 @@ digits-more zero n h k w = let r : ⊥ = omega arith in absurd r
 digits-more (suc p) n h k {mid = mid} {to = to} w =
     rw (le-ltb n 10 k)
     (wrote-more (digits p (n / 10)) ((48 + n % 10) ∷ []) (simp unary-clauses at w) (wrote-byte mid to (48 + n % 10) (to + 1) refl))
+
+-- ---- lengths
+
+pub length-hex : (ks : List ℕ) → length (hex ks) ≡ 2 * length ks
+unfolding hex
+length-hex [] = refl
+length-hex (k ∷ ks) = omega (arith, length-hex ks)

@@ -55,20 +55,27 @@ atWord = 97 ∷ 116 ∷ space ∷ []
 
 -- "Game card": `start` and the key
 unfoldable pub startLine : List ℕ → List ℕ
-startLine key = startWord ++ hex key ++ (newline ∷ [])
+startLine key = startWord ++ (hex key ++ (newline ∷ []))
 
--- "Game card": a turn's number from 1, dice byte in hex, end number, number of ends, key after switching
+-- "Game card": what a turn's line says of its end: end number, number of ends, key after switching
+unfoldable pub endWords : ℕ → ℕ → List ℕ → List ℕ
+endWords number count key = (space ∷ decimal number) ++ ((space ∷ decimal count) ++ ((space ∷ hex key) ++ (newline ∷ [])))
+
+-- "Game card": a turn's number from 1, dice byte in hex, and its end
 unfoldable pub turnLine : ℕ → ℕ → ℕ → ℕ → List ℕ → List ℕ
-turnLine turn dice number count key =
-    decimal turn ++ (space ∷ hexByte dice) ++ (space ∷ decimal number) ++ (space ∷ decimal count) ++ (space ∷ hex key) ++ (newline ∷ [])
+turnLine turn dice number count key = decimal turn ++ ((space ∷ hexByte dice) ++ endWords number count key)
 
 -- "Game card": `result` and the last board's number from "Result and phase"
 unfoldable pub resultLine : ℕ → List ℕ
-resultLine phase = resultWord ++ decimal phase ++ (newline ∷ [])
+resultLine phase = resultWord ++ (decimal phase ++ (newline ∷ []))
+
+-- "Game card": the first byte of a refused record
+unfoldable pub placeWords : ℕ → List ℕ
+placeWords at = (space ∷ atWord) ++ (decimal at ++ (newline ∷ []))
 
 -- "Game card": a refused card prints only its refusal's number and the record's first byte
 unfoldable pub refusedLine : ℕ → ℕ → List ℕ
-refusedLine number at = refusedWord ++ decimal number ++ (space ∷ atWord) ++ decimal at ++ (newline ∷ [])
+refusedLine number at = refusedWord ++ (decimal number ++ placeWords at)
 
 -- "Game card": the line of turn k + 1 of a card
 unfoldable pub lineOf : List ℕ → ℕ → List ℕ
@@ -83,7 +90,7 @@ linesOf card (suc k) = linesOf card k ++ lineOf card k
 
 -- "Game card": what is printed for a card, by its reading
 unfoldable pub textFrom : ℕ → Answer → List ℕ → List ℕ
-textFrom n (value turns) card = startLine (startKey card) ++ linesOf card turns ++ resultLine (phaseOf n (boardAfter card turns))
+textFrom n (value turns) card = startLine (startKey card) ++ (linesOf card turns ++ resultLine (phaseOf n (boardAfter card turns)))
 textFrom n (refused number at) card = refusedLine number at
 
 -- "Game card": the text of a card of at most m turns, with n checkers a side

@@ -1,5 +1,6 @@
 // Pieces of text put into lent memory, each from a place on; the place after it is answered.
 ghost use mathlib.Core.Path.{_≡_};
+ghost use mathlib.Core.List.{[], _∷_};
 ghost use Prim.Native.Nat.{_+_, _≤_, _<_};
 ghost use lib.ListN.{length};
 ghost use Rattle.card_text.specs.Text.{hexDigit, hexByte, hex, digits, decimal};
@@ -76,4 +77,13 @@ fn put_digits(out: &mut [u8], at: usize, n: usize, places: usize) -> usize
     let to = put_digits(out, at, n / 10, places - 1);
     out[to] = 48 + (n % 10) as u8;
     to + 1
+}
+
+// One byte.
+pub fn put_byte(out: &mut [u8], at: usize, byte: u8) -> usize
+    requires { ⌜ at + 1 ≤ length (now out) ⌝ }
+    ensures { λ r. ⌜ Wrote (now (out .entry)) at (byte ∷ []) r (now (out .exit)) ⌝ }
+{
+    out[at] = byte;
+    at + 1
 }
