@@ -1,2 +1,4 @@
 -- Laws of the steps behind an end, each file by what it is about.
 pub mod Tried
+pub mod Lost
+pub mod DoubleRecovered

@@ -78,7 +78,7 @@ module _ (d : ℕ) (dd : Die d) where
 
   -- ---- each end once
 
-  sorted-below : (n top : ℕ) (b e : List ℤ) → Good b → Sorted d n top b e → Below b e top
+  pub sorted-below : (n top : ℕ) (b e : List ℤ) → Good b → Sorted d n top b e → Below b e top
   sorted-below zero top b e g q = below-same b e top q
   sorted-below (suc n) top b e g c =
       let k = sorted-below n (c .0) (stepped b (c .0) d) e (can-good b (c .0) d g (c .3)) (c .4) in

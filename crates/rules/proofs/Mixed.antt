@@ -198,18 +198,18 @@ single-in e b d g (p, c, q) = let w = can-within b p d g c in ones-in rising 25 
 
 -- ---- plays with two different dice
 
-play-two : (s l : ℕ) (b e : List ℤ) → Play 2 (l ∷ s ∷ []) b e → Two s l b e ⊎ Two l s b e
+pub play-two : (s l : ℕ) (b e : List ℤ) → Play 2 (l ∷ s ∷ []) b e → Two s l b e ⊎ Two l s b e
 play-two s l b e (inl (p, t, inl w)) = inr (p, t, w)
 play-two s l b e (inl (p, t, inr w)) = absurd w
 play-two s l b e (inr (inl (p, t, inl w))) = inl (p, t, w)
 play-two s l b e (inr (inl (p, t, inr w))) = absurd w
 play-two s l b e (inr (inr w)) = absurd w
 
-two-play : (s l : ℕ) (b e : List ℤ) → Two s l b e ⊎ Two l s b e → Play 2 (l ∷ s ∷ []) b e
+pub two-play : (s l : ℕ) (b e : List ℤ) → Two s l b e ⊎ Two l s b e → Play 2 (l ∷ s ∷ []) b e
 two-play s l b e (inr (p, t, w)) = inl (p, t, inl w)
 two-play s l b e (inl (p, t, w)) = inr (inl (p, t, inl w))
 
-play-one : (s l : ℕ) (b e : List ℤ) → Play 1 (l ∷ s ∷ []) b e → One l b e ⊎ One s b e
+pub play-one : (s l : ℕ) (b e : List ℤ) → Play 1 (l ∷ s ∷ []) b e → One l b e ⊎ One s b e
 play-one s l b e (inl w) = inl w
 play-one s l b e (inr (inl w)) = inr w
 play-one s l b e (inr (inr w)) = absurd w

@@ -35,24 +35,24 @@ use Rattle.rules.proofs.Lists.{Boards, Way, rising, falling, walk, Some
 -- ---- two steps
 
 -- steps from p by d and then from q by c lead from b to e
-record Leads (b : List ℤ) (p d q c : ℕ) (e : List ℤ) : Type 0 where
-  first : Legal b p d
-  second : Legal (stepped b p d) q c
-  ends : e ≡ stepped (stepped b p d) q c
+pub record Leads (b : List ℤ) (p d q c : ℕ) (e : List ℤ) : Type 0 where
+  pub first : Legal b p d
+  pub second : Legal (stepped b p d) q c
+  pub ends : e ≡ stepped (stepped b p d) q c
 
 tested : (b : List ℤ) (p d q c : ℕ) → canStep b p d ≡ true → canStep (stepped b p d) q c ≡ true
     → Leads b p d q c (stepped (stepped b p d) q c)
 tested b p d q c m n = record { first = test-legal b p d m; second = test-legal (stepped b p d) q c n; ends = refl }
 
-second-within : {b e : List ℤ} {p d q c : ℕ} → Good b → Leads b p d q c e → (0 < q) × (q ≤ 25)
+pub second-within : {b e : List ℤ} {p d q c : ℕ} → Good b → Leads b p d q c e → (0 < q) × (q ≤ 25)
 second-within {b} {p = p} {d} {q} g m = from-within (stepped b p d) q (step-good b p d g (m .first)) (m .second .has)
 
 -- each entry above o's bar of the board e after steps from p by d and from q by c on b
-record AfterTwo (b e : List ℤ) (p d q c : ℕ) : Type 0 where
-  x : (i : ℕ) → xs e i + one p i + one q i ≡ xs b i + reached p d i + reached q c i
-  o : (i : ℕ) → 0 < i → os e i ≡ os b i - reached p d i - reached q c i
+pub record AfterTwo (b e : List ℤ) (p d q c : ℕ) : Type 0 where
+  pub x : (i : ℕ) → xs e i + one p i + one q i ≡ xs b i + reached p d i + reached q c i
+  pub o : (i : ℕ) → 0 < i → os e i ≡ os b i - reached p d i - reached q c i
 
-two-law : {b e : List ℤ} {p d q c : ℕ} → Good b → Leads b p d q c e → AfterTwo b e p d q c
+pub two-law : {b e : List ℤ} {p d q c : ℕ} → Good b → Leads b p d q c e → AfterTwo b e p d q c
 two-law {b} {p = p} {d} {q} {c} g m =
     let v = step-law b p d g (m .first) in
     let w = step-law (stepped b p d) q c (step-good b p d g (m .first)) (m .second) in
@@ -61,7 +61,7 @@ two-law {b} {p = p} {d} {q} {c} g m =
 -- ---- from an end back to the steps
 
 -- the first of two falling origins is the highest entry that lost an x
-mark-two : {b e : List ℤ} {p d q c : ℕ} → Die d → Die c → q ≤ p → AfterTwo b e p d q c → Mark b e p
+pub mark-two : {b e : List ℤ} {p d q c : ℕ} → Die d → Die c → q ≤ p → AfterTwo b e p d q c → Mark b e p
 mark-two {p = p} {d} {q} {c} dd dc h w = record {
   less = omega (arith, w .x p, one-same p p refl, reached-above p d p (dd .low) (omega arith), reached-above q c p (dc .low) h);
   above = λ i k.

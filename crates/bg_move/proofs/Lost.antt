@@ -1,0 +1,60 @@
+-- Which points lost a checker of x from one board to another.
+-- Assumes nothing.
+use mathlib.Core.Path.{_≡_, refl, ap, _∙_}
+use mathlib.Core.Logic.{⊎-elim}
+use mathlib.Core.List.{List}
+use Prim.Native.Nat.{ℕ, zero, suc, _+_, _-_, _≤_, _<_}
+use native.Mathlib.Omega.{arith}
+use borrow.Author.Tests.{lt-ltb, le-ltb}
+use lib.IntN.{ℤ}
+use Rattle.ints.proofs.Tests.{last}
+use Rattle.position.specs.Board.{xs}
+use Rattle.position.specs.Phase.{highest}
+use Rattle.rules.proofs.Marks.{Mark}
+use Rattle.bg_move.specs.Steps.{lost, lostNext}
+
+-- ---- the highest number at which a function is not 0
+
+pub highest-is : (f : ℕ → ℕ) (n p : ℕ) → p < n → 0 < f p → ((i : ℕ) → p < i → i < n → f i ≡ 0) → highest f n ≡ p
+unfolding highest
+highest-is f zero p l h a = absurd (omega arith)
+highest-is f (suc n) p l h a =
+    ⊎-elim
+    (λ (e : p ≡ n). let k = ap f e in rw (lt-ltb 0 (f n) (omega arith)) (omega arith))
+    (λ (m : p < n). rw (le-ltb 0 (f n) (omega (arith, a n m (omega arith)))) (highest-is f n p m h (λ i u v. a i u (omega arith))))
+    (last l)
+
+pub highest-none : (f : ℕ → ℕ) (n : ℕ) → ((i : ℕ) → i < n → f i ≡ 0) → highest f n ≡ 0
+unfolding highest
+highest-none f zero a = refl
+highest-none f (suc n) a = rw (le-ltb 0 (f n) (omega (arith, a n (omega arith)))) (highest-none f n (λ i l. a i (omega arith)))
+
+-- ---- the points that lost a checker
+
+module _ (b e : List ℤ) where
+  -- p did, and none above it below n
+  pub lost-at : (n p : ℕ) → p < n → xs e p < xs b p → ((i : ℕ) → p < i → i < n → xs b i ≤ xs e i) → lost b e n ≡ p
+  unfolding lost
+  lost-at n p l h a = highest-is (λ i. xs b i - xs e i) n p l (omega arith) (λ i u v. omega (arith, a i u v))
+
+  pub lost-none : (n : ℕ) → ((i : ℕ) → i < n → xs b i ≤ xs e i) → lost b e n ≡ 0
+  unfolding lost
+  lost-none n a = highest-none (λ i. xs b i - xs e i) n (λ i l. omega (arith, a i l))
+
+  pub lost-mark : (p : ℕ) → p ≤ 25 → Mark b e p → lost b e 26 ≡ p
+  lost-mark p l m = lost-at 26 p (omega arith) (m .less) (λ i u v. omega (arith, m .above i u))
+
+  module _ (f : ℕ) where
+    -- the same point lost the second one too
+    pub next-same : xs e f + 1 < xs b f → lostNext b e f ≡ f
+    unfolding lostNext
+    next-same h = rw (lt-ltb 1 (xs b f - xs e f) (omega arith))
+
+    -- it lost one, and the next is looked for below it
+    pub next-below : xs b f ≤ xs e f + 1 → lostNext b e f ≡ lost b e f
+    unfolding lostNext
+    next-below h = rw (le-ltb 1 (xs b f - xs e f) (omega arith))
+
+-- no point lost one where nothing changed
+pub lost-same : (b e : List ℤ) → e ≡ b → lost b e 26 ≡ 0
+lost-same b e q = rw q (lost-none b b 26 (λ i l. omega arith))
