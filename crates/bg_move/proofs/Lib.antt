@@ -2,3 +2,4 @@
 pub mod Tried
 pub mod Lost
 pub mod DoubleRecovered
+pub mod MixedRecovered
