@@ -3,3 +3,4 @@ pub mod Tried
 pub mod Lost
 pub mod DoubleRecovered
 pub mod MixedRecovered
+pub mod Recovery
