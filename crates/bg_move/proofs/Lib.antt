@@ -4,3 +4,4 @@ pub mod Lost
 pub mod DoubleRecovered
 pub mod MixedRecovered
 pub mod Recovery
+pub mod Refusals

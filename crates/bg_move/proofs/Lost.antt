@@ -1,6 +1,6 @@
 -- Which points lost a checker of x from one board to another.
 -- Assumes nothing.
-use mathlib.Core.Path.{_≡_, refl, ap, _∙_}
+use mathlib.Core.Path.{_≡_, refl, ap}
 use mathlib.Core.Logic.{⊎-elim}
 use mathlib.Core.List.{List}
 use Prim.Native.Nat.{ℕ, zero, suc, _+_, _-_, _≤_, _<_}
@@ -15,7 +15,7 @@ use Rattle.bg_move.specs.Steps.{lost, lostNext}
 
 -- ---- the highest number at which a function is not 0
 
-pub highest-is : (f : ℕ → ℕ) (n p : ℕ) → p < n → 0 < f p → ((i : ℕ) → p < i → i < n → f i ≡ 0) → highest f n ≡ p
+highest-is : (f : ℕ → ℕ) (n p : ℕ) → p < n → 0 < f p → ((i : ℕ) → p < i → i < n → f i ≡ 0) → highest f n ≡ p
 unfolding highest
 highest-is f zero p l h a = absurd (omega arith)
 highest-is f (suc n) p l h a =
@@ -24,7 +24,7 @@ highest-is f (suc n) p l h a =
     (λ (m : p < n). rw (le-ltb 0 (f n) (omega (arith, a n m (omega arith)))) (highest-is f n p m h (λ i u v. a i u (omega arith))))
     (last l)
 
-pub highest-none : (f : ℕ → ℕ) (n : ℕ) → ((i : ℕ) → i < n → f i ≡ 0) → highest f n ≡ 0
+highest-none : (f : ℕ → ℕ) (n : ℕ) → ((i : ℕ) → i < n → f i ≡ 0) → highest f n ≡ 0
 unfolding highest
 highest-none f zero a = refl
 highest-none f (suc n) a = rw (le-ltb 0 (f n) (omega (arith, a n (omega arith)))) (highest-none f n (λ i l. a i (omega arith)))

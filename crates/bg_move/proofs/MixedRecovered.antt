@@ -3,7 +3,7 @@
 -- Assumes nothing.
 use mathlib.Core.Path.{_≡_, refl, sym, ap, subst, _∙_}
 use mathlib.Core.Logic.{_⊎_, inl, inr}
-use mathlib.Core.Bool.{Bool, true, false, cond, _&&_}
+use mathlib.Core.Bool.{Bool, true, false}
 use mathlib.Core.List.{List, [], _∷_}
 use Prim.Native.Nat.{ℕ, zero, suc, _+_, _-_, _≤_, _<_}
 use native.Mathlib.Omega.{arith}
@@ -22,24 +22,24 @@ use Rattle.rules.specs.Plays.{Play}
 use Rattle.rules.specs.Ends.{sameBoard}
 use Rattle.rules.proofs.Lists.{sameBoard-is, sameBoard-self}
 use Rattle.rules.proofs.Plays.{play-most}
-use Rattle.rules.proofs.Two.{One, Two, can-within, can-good}
+use Rattle.rules.proofs.Two.{Two, can-within, can-good}
 use Rattle.rules.proofs.Commute.{swap}
 use Rattle.rules.proofs.Marks.{mark-step}
 use Rattle.rules.proofs.Repeats.{AfterTwo, two-law, mark-two}
-use Rattle.rules.proofs.Mixed.{play-one, play-two, two-play}
+use Rattle.rules.proofs.Mixed.{play-one, play-two}
 use Rattle.bg_move.specs.declared.Step.{Step}
-use Rattle.bg_move.specs.Steps.{told, two, Made, lost, lostNext, leads, leadsBoth, oneChecker, twoCheckers, mixedSteps}
+use Rattle.bg_move.specs.Steps.{two, Made, lost, lostNext, leads, leadsBoth, oneChecker, twoCheckers, mixedSteps}
 use Rattle.bg_move.proofs.Lost.{lost-at, lost-none, lost-mark, lost-same, next-same, next-below}
 
 -- ---- what the tests of one step and of two tell
 
 module _ (b : List ℤ) (p d : ℕ) (e : List ℤ) where
-  pub leads-step : leads b p d e ≡ true → (canStep b p d ≡ true) × (e ≡ stepped b p d)
+  leads-step : leads b p d e ≡ true → (canStep b p d ≡ true) × (e ≡ stepped b p d)
   unfolding leads
   leads-step t =
       (and-left (canStep b p d) (sameBoard (stepped b p d) e) t, sym (sameBoard-is (stepped b p d) e (and-right (canStep b p d) (sameBoard (stepped b p d) e) t)))
 
-  pub step-leads : canStep b p d ≡ true → e ≡ stepped b p d → leads b p d e ≡ true
+  step-leads : canStep b p d ≡ true → e ≡ stepped b p d → leads b p d e ≡ true
   unfolding leads
   step-leads c q = rw (c, q) (sameBoard-self (stepped b p d))
 

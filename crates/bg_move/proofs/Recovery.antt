@@ -1,9 +1,9 @@
 -- Recovery is right for every legal end: its steps are legal one after another, each by a die of its own, as many as the dice used, and lead to
 -- that end; and there are never more than four.
 -- Assumes nothing.
-use mathlib.Core.Path.{_≡_, refl}
+use mathlib.Core.Path.{_≡_}
 use mathlib.Core.Logic.{_≢_}
-use mathlib.Core.List.{List, [], _∷_}
+use mathlib.Core.List.{List}
 use Prim.Native.Nat.{ℕ, zero, suc, _-_, _≤_, min, max}
 use native.Mathlib.Omega.{arith}
 use native.Mathlib.Decide.{ℕ-discrete}
@@ -67,7 +67,7 @@ few-two b e p q s l =
     by-cond (leadsBoth b q l p s e) _ _ (Few 2) (λ t. omega arith) (λ t.
     by-cond (leadsBoth b q s p l e) _ _ (Few 2) (λ t. omega arith) (λ t. omega arith))))
 
-pub mixed-at-most-two : (b e : List ℤ) (s l : ℕ) → length (mixedSteps b e s l) ≤ 2
+mixed-at-most-two : (b e : List ℤ) (s l : ℕ) → length (mixedSteps b e s l) ≤ 2
 unfolding mixedSteps
 mixed-at-most-two b e s l =
     let f = lost b e 26 in

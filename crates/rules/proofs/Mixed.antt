@@ -205,7 +205,7 @@ play-two s l b e (inr (inl (p, t, inl w))) = inl (p, t, w)
 play-two s l b e (inr (inl (p, t, inr w))) = absurd w
 play-two s l b e (inr (inr w)) = absurd w
 
-pub two-play : (s l : ℕ) (b e : List ℤ) → Two s l b e ⊎ Two l s b e → Play 2 (l ∷ s ∷ []) b e
+two-play : (s l : ℕ) (b e : List ℤ) → Two s l b e ⊎ Two l s b e → Play 2 (l ∷ s ∷ []) b e
 two-play s l b e (inr (p, t, w)) = inl (p, t, inl w)
 two-play s l b e (inl (p, t, w)) = inr (inl (p, t, inl w))
 

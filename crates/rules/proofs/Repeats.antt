@@ -44,7 +44,7 @@ tested : (b : List ℤ) (p d q c : ℕ) → canStep b p d ≡ true → canStep (
     → Leads b p d q c (stepped (stepped b p d) q c)
 tested b p d q c m n = record { first = test-legal b p d m; second = test-legal (stepped b p d) q c n; ends = refl }
 
-pub second-within : {b e : List ℤ} {p d q c : ℕ} → Good b → Leads b p d q c e → (0 < q) × (q ≤ 25)
+second-within : {b e : List ℤ} {p d q c : ℕ} → Good b → Leads b p d q c e → (0 < q) × (q ≤ 25)
 second-within {b} {p = p} {d} {q} g m = from-within (stepped b p d) q (step-good b p d g (m .first)) (m .second .has)
 
 -- each entry above o's bar of the board e after steps from p by d and from q by c on b
