@@ -1,2 +1,3 @@
--- The number of an end.
+-- The number of an end, and the window that it is looked for in.
 pub mod Number
+pub mod Slots

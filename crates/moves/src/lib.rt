@@ -106,7 +106,7 @@ fn number_of_ends(b: &[i8; 26], die1: usize, die2: usize) -> usize
 
 // Passes the ends of a roll, from number 0 on, and writes those that fall in the window that begins at the end with number `from`.
 // The number of ends.
-fn fill(b: &[i8; 26], die1: usize, die2: usize, out: &mut [u8], from: usize) -> usize
+pub fn fill(b: &[i8; 26], die1: usize, die2: usize, out: &mut [u8], from: usize) -> usize
     requires { ⌜ CanPlay checkers (now b) die1 die2 ⌝ }
     ensures { λ r. ⌜ Passed (endsOf (now (b .entry)) die1 die2) (now (out .entry)) from 0 r (now (out .exit)) ⌝ }
 {
