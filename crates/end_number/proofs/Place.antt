@@ -8,8 +8,16 @@ use Prim.Native.Nat.{ℕ, zero, suc, _+_, _≤_, _<_}
 use native.Mathlib.Omega.{arith}
 use lib.IntN.{ℤ}
 use lib.ListN.{length, getD}
-use Rattle.rules.specs.Ends.{sameBoard, In, Once}
+use Rattle.dice.specs.Dice.{Die}
+use Rattle.position.specs.Board.{Accepted, switched}
+use Rattle.position.proofs.SideSwitch.{switched-same}
+use Rattle.rules.specs.Ends.{sameBoard, endsOf, switchedEndsOf, In, Once}
+use Rattle.rules.specs.Plays.{LegalEnd}
+use Rattle.rules.proofs.Accepted.{end-accepted}
+use Rattle.rules.proofs.Exact.{accepted-exact}
 use Rattle.rules.proofs.Lists.{Boards, sameBoard-is, sameBoard-self}
+use Rattle.rules.proofs.Switched.{switched-exact, once-switched}
+use Rattle.moves.specs.Answers.{endsCount}
 use Rattle.end_number.specs.Number.{place}
 
 -- at the head, and past it
@@ -62,3 +70,73 @@ module _ (e : List ℤ) where
       let i = place-past-all l k m h (omega arith) (λ j g. f j (omega arith)) in
       let r = place-past l (k + m) i (omega arith) (f m (omega arith)) in
       omega arith
+
+-- ---- what stands in the list has a place below its length, and nothing else
+
+pub place-in : (e : List ℤ) (l : Boards) → In e l → place e l < length l
+place-in e [] m = absurd m
+place-in e (c ∷ l) (inl q) = rw (place-here e c l q) (omega arith)
+place-in e (c ∷ l) (inr m) = by-head e c l (λ n. n < suc (length l)) (λ q. omega arith) (λ q. omega (arith, place-in e l m))
+
+pub in-place : (e : List ℤ) (l : Boards) → place e l < length l → In e l
+in-place e [] h = absurd (omega arith)
+in-place e (c ∷ l) h = by-head e c l (λ n. n < suc (length l) → In e (c ∷ l)) (λ q g. inl q) (λ q g. inr (in-place e l (omega arith))) h
+
+-- it stands at its place
+pub place-getD : (e : List ℤ) (l : Boards) → place e l < length l → getD l (place e l) [] ≡ e
+place-getD e [] h = absurd (omega arith)
+place-getD e (c ∷ l) h =
+    by-head e c l (λ n. n < suc (length l) → getD (c ∷ l) n [] ≡ e) (λ q g. sym q) (λ q g. place-getD e l (omega arith)) h
+
+-- so boards with one place are one board
+pub place-same : (e f : List ℤ) (l : Boards) → In e l → In f l → place e l ≡ place f l → e ≡ f
+place-same e f l m n q =
+    sym (place-getD e l (place-in e l m)) ∙ ap (λ (k : ℕ). getD l k []) q ∙ place-getD f l (place-in f l n)
+
+getD-in : (l : Boards) (k : ℕ) → k < length l → In (getD l k []) l
+getD-in [] k h = absurd (omega arith)
+getD-in (c ∷ l) zero h = inl refl
+getD-in (c ∷ l) (suc k) h = inr (getD-in l k (omega arith))
+
+-- in a list with nothing twice the board at k has the place k
+pub place-once : (l : Boards) → Once l → (k : ℕ) → k < length l → place (getD l k []) l ≡ k
+place-once [] o k h = absurd (omega arith)
+place-once (c ∷ l) o zero h = place-here c c l refl
+place-once (c ∷ l) o (suc k) h =
+    let e = getD l k [] in
+    place-there e c l (λ q. o .0 (subst (λ (x : List ℤ). In x l) q (getD-in l k (omega arith)))) ∙ ap suc (place-once l (o .1) k (omega arith))
+
+-- ---- sides switched
+
+pub place-switched : (e : List ℤ) (l : Boards) → length e ≡ 26 → ((c : List ℤ) → In c l → length c ≡ 26)
+    → place (switched e) (map switched l) ≡ place e l
+unfolding place
+place-switched e [] s h = refl
+place-switched e (c ∷ l) s h =
+    by-head e c l (λ n. place (switched e) (switched c ∷ map switched l) ≡ n) (λ q. place-here (switched e) (switched c) (map switched l) (ap switched q))
+    (λ q.
+    place-there (switched e) (switched c) (map switched l) (λ z. q (switched-same e c s (h c (inl refl)) z))
+    ∙ ap suc (place-switched e l s (λ a m. h a (inr m))))
+
+-- ---- the ends of a roll
+
+module _ (n : ℕ) (b : List ℤ) (d1 d2 : ℕ) (a : Accepted n b) (dd1 : Die d1) (dd2 : Die d2) where
+  -- a board has a number exactly where it is a legal end, sides switched
+  pub number-legal : (e : List ℤ)
+      → (place e (switchedEndsOf b d1 d2) < endsCount b d1 d2) ↔ ((f : List ℤ) × LegalEnd b d1 d2 f × (e ≡ switched f))
+  unfolding endsCount
+  number-legal e = (
+    (λ h. switched-exact n b d1 d2 a dd1 dd2 e .0 (in-place e (switchedEndsOf b d1 d2) h)),
+    λ r. place-in e (switchedEndsOf b d1 d2) (switched-exact n b d1 d2 a dd1 dd2 e .1 r),
+  )
+
+  -- the end with the number k has it
+  pub number-once : (k : ℕ) → k < endsCount b d1 d2 → place (getD (switchedEndsOf b d1 d2) k []) (switchedEndsOf b d1 d2) ≡ k
+  unfolding endsCount
+  number-once k h = place-once (switchedEndsOf b d1 d2) (once-switched n b d1 d2 a dd1 dd2) k h
+
+  -- an end told from the mover's side has its switched board's number
+  pub number-switched : (e : List ℤ) → length e ≡ 26 → place (switched e) (switchedEndsOf b d1 d2) ≡ place e (endsOf b d1 d2)
+  unfolding switchedEndsOf
+  number-switched e s =
+      place-switched e (endsOf b d1 d2) s (λ c m. end-accepted n b d1 d2 c a (accepted-exact a d1 d2 dd1 dd2 c .0 m) .size)
