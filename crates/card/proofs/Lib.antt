@@ -5,4 +5,5 @@ pub mod Starts
 pub mod Reader
 pub mod Reading
 pub mod Accepts
+pub mod Different
 pub mod Tried

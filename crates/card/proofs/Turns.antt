@@ -138,13 +138,13 @@ module _ {n : ℕ} {b : List ℤ} (a : Accepted n b) (t : Turn) (roll : Roll (t 
   next-accepted = switched-accepted n (t .stops) (end-accepted n b (t .larger) (t .smaller) (t .stops) a legal)
 
   module _ (rest : List ℕ) where
-    larger-read : larger (recordOf b t ++ rest) ≡ t .larger
+    pub larger-read : larger (recordOf b t ++ rest) ≡ t .larger
     larger-read = let s = roll in omega arith
 
-    smaller-read : smaller (recordOf b t ++ rest) ≡ t .smaller
+    pub smaller-read : smaller (recordOf b t ++ rest) ≡ t .smaller
     smaller-read = let s = roll in omega arith
 
-    number-read : endNumber (recordOf b t ++ rest) ≡ place (t .stops) (endsOf b (t .larger) (t .smaller))
+    pub number-read : endNumber (recordOf b t ++ rest) ≡ place (t .stops) (endsOf b (t .larger) (t .smaller))
     number-read = omega arith
 
     pub record-fine : Unfinished b → Fine b (recordOf b t ++ rest)
