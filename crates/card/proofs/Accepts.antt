@@ -3,28 +3,25 @@
 use mathlib.Core.Path.{_≡_, refl, sym, ap, _∙_}
 use mathlib.Core.List.{List, [], _∷_, _++_}
 use mathlib.Core.Logic.{_↔_}
-use Prim.Native.Nat.{ℕ, zero, suc, _+_, _≤_, _<_}
+use Prim.Native.Nat.{ℕ, zero, suc, _+_, _≤_}
 use native.Mathlib.Omega.{arith}
 use lib.IntN.{ℤ}
-use lib.ListN.{length, getD, drop, drop-of-length-le}
-use lib.Seq.{getD-drop}
-use Rattle.ints.specs.Answer.{Answer, value, refused}
+use lib.ListN.{length, drop, drop-of-length-le}
+use Rattle.ints.specs.Answer.{value}
 use Rattle.ints.specs.Bits.{Bytes}
+use Rattle.ints.proofs.Bits.{bytes-of}
 use Rattle.position.specs.Board.{Accepted}
-use Rattle.key.specs.Key.{boardOf}
-use Rattle.card.specs.Game.{Turn, Played, Game, next}
+use Rattle.rules.specs.Plays.{LegalEnd}
+use Rattle.rules.proofs.Bound.{at-most}
+use Rattle.key.specs.Key.{keyOf, keyBits, boardOf}
+use Rattle.card.specs.Game.{Roll, Turn, Played, Game, next}
 use Rattle.card.specs.Card.{startRecord, recordOf, recordsOf, cardOf}
-use Rattle.card.specs.Read.{startKey, startRecordRefusal, turnAt, turnRefusal, afterTurn, boardAfter, readFrom, readAnswer}
-use Rattle.card.proofs.Reader.{refusalAt, next-record, Step, ends, refuses, goes, read-step, LastStep, over, last-step, FirstStep, begins, first-step}
-use Rattle.card.proofs.Starts.{Begun, unrefused-begun, begun-accepted, begun-unfinished, begun-record}
-use Rattle.card.proofs.Turns.{Fine, unrefused-fine, turnOf, told-roll, told-legal, told-after, told-record, next-accepted}
+use Rattle.card.specs.Read.{startKey, turnAt, afterTurn, boardAfter, readFrom, readAnswer}
+use Rattle.card.proofs.Bytes.{bytes-append, bytes-drop}
+use Rattle.card.proofs.Reader.{no-value, refusalAt, next-record, Step, ends, refuses, goes, read-step, LastStep, over, last-step, FirstStep, begins, first-step}
+use Rattle.card.proofs.Starts.{unrefused-begun, begun-accepted, begun-unfinished, begun-record}
+use Rattle.card.proofs.Turns.{Fine, unrefused-fine, turnOf, told-roll, told-legal, told-after, told-record, number-known, next-accepted}
 use Rattle.card.proofs.Reading.{card-read}
-
-never : {X : Type 0} {number at t : ℕ} → refused number at ≡ value t → X
-never {X} {number} {at} {t} e = let z : _≡_ {A = ℕ} 0 1 = cc in absurd (omega arith)
-
-bytes-drop : (k : ℕ) (l : List ℕ) → Bytes l → Bytes (drop k l)
-bytes-drop k l b i = rw (getD-drop k l i 0) (b (k + i))
 
 -- turns from b of which the records stand in the card after k turns, and make t turns in all
 record Told (card : List ℕ) (left k t : ℕ) (b : List ℤ) : Type 0 where
@@ -66,14 +63,14 @@ module _ {n : ℕ} (card : List ℕ) (bytes : Bytes card) where
     where
       go : LastStep card k (readFrom 0 card k) → Told card 0 k t b
       go (LastStep.ends h q) = none-told card 0 k t b h (cc)
-      go (over h q) = never (sym q ∙ r)
+      go (over h q) = no-value (sym q ∙ r)
   told (suc left) k t b e a r = go (read-step left card k) (told left (suc k) t)
     where
       go : Step card k (readFrom (suc left) card k) (readFrom left card (suc k))
           → ((c : List ℤ) → boardAfter card (suc k) ≡ c → Accepted n c → readFrom left card (suc k) ≡ value t → Told card left (suc k) t c)
           → Told card (suc left) k t b
       go (ends h q) ih = none-told card (suc left) k t b h (cc)
-      go (refuses h l q) ih = never (sym q ∙ r)
+      go (refuses h l q) ih = no-value (sym q ∙ r)
       go (goes h u q) ih = one-told left k t b e a u (λ c f d. ih c f d (sym q ∙ r))
 
 -- a card that is read, of t turns, is the card of a game of t turns
@@ -89,7 +86,7 @@ unfolding boardAfter
 accepts-games n m card t few bytes r = go (first-step n m card)
   where
     go : FirstStep n card (readAnswer n m card) (readFrom m card 0) → CardOfGame n m card t
-    go (FirstStep.refuses h q) = never (sym q ∙ r)
+    go (FirstStep.refuses h q) = no-value (sym q ∙ r)
     go (begins e q) =
         let s = unrefused-begun n card e in
         let b = boardOf (startKey card) in
@@ -103,9 +100,37 @@ accepts-games n m card t few bytes r = go (first-step n m card)
           card-is = begun-record card s few bytes ∙ ap (λ (l : List ℕ). startRecord b ++ l) (w .records);
         }
 
--- the reader accepts exactly the cards of games, with their numbers of turns
-pub accepts-exactly-cards : (n m : ℕ) (card : List ℕ) (t : ℕ) → n ≤ 15 → Bytes card → (readAnswer n m card ≡ value t) ↔ CardOfGame n m card t
-accepts-exactly-cards n m card t few bytes = (
-  accepts-games n m card t few bytes,
-  λ c. ap (readAnswer n m) (c .card-is) ∙ card-read few (c .game) ∙ ap value (c .count),
+-- ---- the card of a game is bytes
+
+-- an end's number is below 17,550, so it fits two
+record-bytes : {n : ℕ} {b : List ℤ} → Accepted n b → (t : Turn) → Roll (t .larger) (t .smaller) → LegalEnd b (t .larger) (t .smaller) (t .stops) → Bytes (recordOf b t)
+record-bytes a t roll legal zero = omega arith
+record-bytes a t roll legal (suc zero) = omega arith
+record-bytes a t roll legal (suc (suc zero)) = omega arith
+record-bytes a t roll legal (suc (suc (suc zero))) = omega arith
+record-bytes {n} {b} a t roll legal (suc (suc (suc (suc zero)))) =
+    omega (arith, number-known a t roll legal, at-most b (t .larger) (t .smaller))
+record-bytes a t roll legal (suc (suc (suc (suc (suc i))))) = omega arith
+
+records-bytes : {n : ℕ} {b : List ℤ} → Accepted n b → (ts : List Turn) → Played b ts → Bytes (recordsOf b ts)
+records-bytes a [] p i = omega arith
+records-bytes {n} {b} a (t ∷ ts) p i =
+    bytes-append (recordOf b t) (recordsOf (next t) ts) (record-bytes a t (p .1) (p .2)) (records-bytes (next-accepted a t (p .1) (p .2)) ts (p .3)) i
+
+start-bytes : (b : List ℤ) → Bytes (startRecord b)
+unfolding keyOf
+start-bytes b zero = omega arith
+start-bytes b (suc zero) = omega arith
+start-bytes b (suc (suc i)) = bytes-of 10 (keyBits b) i
+
+pub card-bytes : {n m : ℕ} {start : List ℤ} {turns : List Turn} → Game n m start turns → Bytes (cardOf start turns)
+card-bytes {n} {m} {start} {turns} g =
+    bytes-append (startRecord start) (recordsOf start turns) (start-bytes start) (records-bytes (g .accepted) turns (g .played))
+
+-- ---- so the reader accepts exactly the cards of games, with their numbers of turns
+
+pub accepts-exactly-cards : (n m : ℕ) (card : List ℕ) (t : ℕ) → n ≤ 15 → (Bytes card × (readAnswer n m card ≡ value t)) ↔ CardOfGame n m card t
+accepts-exactly-cards n m card t few = (
+  (λ r. accepts-games n m card t few (r .0) (r .1)),
+  λ c. (rw (c .card-is) (card-bytes (c .game)), ap (readAnswer n m) (c .card-is) ∙ card-read few (c .game) ∙ ap value (c .count)),
 )

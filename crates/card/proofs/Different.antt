@@ -1,17 +1,16 @@
 -- Different games have different cards: the card tells the start, the number of turns, each roll and each end. A game has one card, since
 -- `cardOf` is a function of it. Stated over the number n of checkers a side, at most fifteen. Assumes nothing.
 use mathlib.Core.Path.{_≡_, refl, sym, ap, ap₂, subst, _∙_}
-use mathlib.Core.List.{List, [], _∷_, _++_}
+use mathlib.Core.List.{List, [], _∷_}
 use mathlib.Core.Logic.{_≢_}
-use Prim.Native.Nat.{ℕ, suc, _≤_}
-use native.Mathlib.Omega.{arith}
+use Prim.Native.Nat.{ℕ, _≤_}
 use lib.IntN.{ℤ}
 use lib.ListN.{length, getD, drop}
 use Rattle.position.specs.Board.{Accepted}
 use Rattle.rules.specs.Ends.{endsOf}
 use Rattle.key.proofs.ReadBack.{different-keys}
 use Rattle.card.specs.Game.{Turn, Played, Game, next}
-use Rattle.card.specs.Card.{recordOf, recordsOf, cardOf}
+use Rattle.card.specs.Card.{recordsOf, cardOf}
 use Rattle.card.specs.Read.{startKey, larger, smaller, endNumber}
 use Rattle.card.proofs.Starts.{key-of-start, after-start}
 use Rattle.card.proofs.Turns.{larger-read, smaller-read, number-read, number-names, next-accepted}
@@ -34,7 +33,7 @@ different-turns {n} {b} a (t ∷ ts) (u ∷ us) p q e =
     let s : t .smaller ≡ u .smaller = sym (smaller-read a t (p .1) (p .2) x) ∙ ap smaller e ∙ smaller-read a u (q .1) (q .2) y in
     let k = sym (number-read a t (p .1) (p .2) x) ∙ ap endNumber e ∙ number-read a u (q .1) (q .2) y in
     let f : t .stops ≡ u .stops =
-        sym (number-names a t (p .1) (p .2)) ∙ ap₂ (λ (c : List (List ℤ)) (i : ℕ). getD c i []) (ap₂ (endsOf b) l s) k ∙ number-names a u (q .1) (q .2) in
+    sym (number-names a t (p .1) (p .2)) ∙ ap₂ (λ (c : List (List ℤ)) (i : ℕ). getD c i []) (ap₂ (endsOf b) l s) k ∙ number-names a u (q .1) (q .2) in
     let same : t ≡ u = same-turn t u l s f in
     let rest : recordsOf (next t) ts ≡ recordsOf (next t) us = ap (drop 5) e ∙ ap (λ (v : Turn). recordsOf (next v) us) (sym same) in
     ap₂ _∷_ same (different-turns (next-accepted a t (p .1) (p .2)) ts us (p .3) (subst (λ (v : Turn). Played (next v) us) (sym same) (q .3)) rest)

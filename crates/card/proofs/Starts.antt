@@ -2,26 +2,25 @@
 -- one. Stated over the number n of checkers a side, at most fifteen. Assumes nothing.
 use mathlib.Core.Path.{_≡_, refl, sym, ap, _∙_}
 use mathlib.Core.Bool.{Bool, true, false, cond, _&&_, _||_}
-use mathlib.Core.Logic.{_⊎_, inl, inr}
 use mathlib.Core.List.{List, [], _∷_, _++_}
-use Prim.Native.Nat.{ℕ, zero, suc, _+_, _≤_, _<_}
+use Prim.Native.Nat.{ℕ, _+_, _≤_}
 use native.Mathlib.Omega.{arith}
 use lib.Dec.{ltb, eqb}
 use lib.IntN.{ℤ}
-use lib.ListN.{length, getD, take, drop, length-append, length-take, length-drop, take-append-drop, List·getD-eq-default}
-use lib.Seq.{take-at, drop-at, length-take-le, getD-take, getD-drop, drop-drop}
+use lib.ListN.{length, getD, drop, length-append, length-drop, take-append-drop}
+use lib.Seq.{take-at, drop-at, length-take-le, drop-drop}
 use borrow.Author.Tests.{ltb-true, ltb-false, le-ltb, eqb-true, eqb-false, eq-eqb}
-use Rattle.ints.specs.Bits.{Bytes, bytesOf}
+use Rattle.ints.specs.Bits.{Bytes}
 use Rattle.ints.proofs.Bits.{length-bytes}
-use Rattle.ints.proofs.Tests.{lt-or-le}
 use Rattle.position.specs.Board.{Accepted, xAll, oAll, refusalOf, startRefusal}
-use Rattle.position.proofs.Boards.{started-0}
+use Rattle.position.proofs.Boards.{accepted-unrefused, started-0}
 use Rattle.key.specs.Key.{keyOf, keyBits, boardOf, keyRefusal}
 use Rattle.key.proofs.ReadBack.{written-accepted, read-written}
 use Rattle.key.proofs.AcceptedKeys.{read-accepted, written-read}
 use Rattle.card.specs.Game.{Unfinished}
 use Rattle.card.specs.Card.{startRecord}
-use Rattle.card.specs.Read.{marked, startKey, startRecordRefusal}
+use Rattle.card.specs.Read.{startKey, startRecordRefusal}
+use Rattle.card.proofs.Bytes.{bytes-take, bytes-drop}
 
 -- ---- the tests of a start record as facts
 
@@ -86,6 +85,12 @@ unrefused-start n b =
         let o = eqb-false (oAll b) 0 e3 in
         (omega arith, record { x = omega arith; o = omega arith })
 
+-- of the board of a key that is read, 1 to 4 are no matter: 6, then 5
+pub start-of-key : (n : ℕ) (k : List ℕ) → keyRefusal n k ≡ 0
+    → startRefusal n (boardOf k) ≡ cond (eqb (xAll (boardOf k) + oAll (boardOf k)) 0) 6 (cond (eqb (xAll (boardOf k)) 0 || eqb (oAll (boardOf k)) 0) 5 0)
+unfolding startRefusal
+start-of-key n k e = rw (accepted-unrefused n (boardOf k) (read-accepted n k e))
+
 -- ---- a start's record is read as that board
 
 pub length-key : (b : List ℤ) → length (keyOf b) ≡ 10
@@ -129,17 +134,10 @@ module _ {n : ℕ} (card : List ℕ) (s : Begun n card) where
   begun-unfinished = unrefused-start n (boardOf (startKey card)) (s .start) .1
 
   module _ (few : n ≤ 15) (bytes : Bytes card) where
-    key-bytes : Bytes (startKey card)
-    key-bytes k = go (lt-or-le k 10)
-      where
-        go : (k < 10) ⊎ (10 ≤ k) → getD (startKey card) k 0 < 256
-        go (inl h) = rw (getD-take 10 (drop 2 card) k 0 h, getD-drop 2 card k 0) (bytes (2 + k))
-        go (inr h) = rw (List·getD-eq-default (startKey card) 0 {n = k} (omega (arith, length-take 10 (drop 2 card)))) (omega arith)
-
     pub begun-record : card ≡ startRecord (boardOf (startKey card)) ++ drop 12 card
     begun-record =
         let ten : length (startKey card) ≡ 10 = length-take-le 10 (drop 2 card) (omega (arith, s .whole, length-drop 2 card)) in
-        let key = written-read n (startKey card) (s .key) few ten key-bytes in
+        let key = written-read n (startKey card) (s .key) few ten (bytes-take 10 (drop 2 card) (bytes-drop 2 card bytes)) in
         let split = take-append-drop 10 (drop 2 card) in
         let rest = drop-drop 10 2 card in
         two card (omega (arith, s .whole)) ∙ cc (s .first, s .second)

@@ -1,33 +1,31 @@
 -- The record of one turn: a legal turn's record is read as that turn, and bytes that are read as a turn are the record of a legal one.
 -- Stated over the number n of checkers a side. Assumes nothing.
-use mathlib.Core.Path.{_≡_, refl, sym, ap, subst, _∙_}
+use mathlib.Core.Path.{_≡_, refl, _∙_}
 use mathlib.Core.Bool.{Bool, true, false, cond, _&&_, _||_}
 use mathlib.Core.List.{List, [], _∷_, _++_, map}
-use mathlib.Core.Logic.{inl, inr}
-use Prim.Native.Nat.{ℕ, zero, suc, _+_, _*_, _/_, _%_, _≤_, _<_}
+use Prim.Native.Nat.{ℕ, zero, suc, _+_, _/_, _%_, _≤_, _<_}
 use native.Mathlib.Omega.{arith}
-use lib.Dec.{ltb, eqb, leb}
+use lib.Dec.{ltb, eqb}
 use lib.IntN.{ℤ}
-use lib.ListN.{length, getD, drop, length-map}
+use lib.ListN.{length, getD, drop}
 use borrow.Author.Tests.{ltb-true, ltb-false, lt-ltb, le-ltb, le-leb, eqb-true, eqb-false, eq-eqb, ne-eqb}
 use Rattle.ints.specs.Bits.{Bytes}
-use Rattle.ints.proofs.Tests.{and-left, and-right}
 use Rattle.dice.specs.Rolls.{byteOf, rolls}
 use Rattle.dice.specs.Dice.{isByteIn, Die}
 use Rattle.dice.proofs.Bytes.{in-range, in-order}
 use Rattle.position.specs.Board.{Accepted, xAll, oAll, switched}
 use Rattle.position.proofs.SideSwitch.{switched-accepted}
 use Rattle.rules.specs.Plays.{LegalEnd}
-use Rattle.rules.specs.Ends.{endsOf, switchedEndsOf, In, Once}
+use Rattle.rules.specs.Ends.{endsOf, switchedEndsOf, In}
 use Rattle.rules.proofs.Exact.{accepted-exact, accepted-once}
 use Rattle.rules.proofs.Accepted.{end-accepted}
-use Rattle.rules.proofs.Switched.{switched-length}
 use Rattle.moves.specs.Answers.{endsCount}
+use Rattle.moves.proofs.Entries.{count-is}
 use Rattle.end_number.specs.Number.{place}
+use Rattle.end_number.proofs.Place.{place-in, in-place, place-getD, place-once}
 use Rattle.card.specs.Game.{Roll, Turn, Unfinished, next}
-use Rattle.card.specs.Card.{turnRecord, recordOf}
-use Rattle.card.specs.Read.{marked, larger, smaller, endNumber, finished, turnRefusal, afterTurn}
-use Rattle.card.proofs.Place.{place-in, place-getD, in-getD, place-once}
+use Rattle.card.specs.Card.{recordOf}
+use Rattle.card.specs.Read.{larger, smaller, endNumber, finished, turnRefusal, afterTurn}
 
 -- ---- the tests of a turn's record as facts
 
@@ -113,10 +111,6 @@ getD-map-in f [] k h = let r : ⊥ = omega arith in absurd r
 getD-map-in f (c ∷ l) zero h = refl
 getD-map-in f (c ∷ l) (suc k) h = getD-map-in f l k (omega arith)
 
-pub count-length : (b : List ℤ) (d1 d2 : ℕ) → endsCount b d1 d2 ≡ length (endsOf b d1 d2)
-unfolding endsCount
-count-length b d1 d2 = switched-length b d1 d2
-
 pub switched-getD : (b : List ℤ) (d1 d2 k : ℕ) → k < length (endsOf b d1 d2)
     → getD (switchedEndsOf b d1 d2) k [] ≡ switched (getD (endsOf b d1 d2) k [])
 unfolding switchedEndsOf
@@ -132,7 +126,7 @@ module _ {n : ℕ} {b : List ℤ} (a : Accepted n b) (t : Turn) (roll : Roll (t 
   number-known = place-in (t .stops) (endsOf b (t .larger) (t .smaller)) listed
 
   pub number-names : getD (endsOf b (t .larger) (t .smaller)) (place (t .stops) (endsOf b (t .larger) (t .smaller))) [] ≡ t .stops
-  number-names = place-getD (t .stops) (endsOf b (t .larger) (t .smaller)) listed
+  number-names = place-getD (t .stops) (endsOf b (t .larger) (t .smaller)) number-known
 
   pub next-accepted : Accepted n (next t)
   next-accepted = switched-accepted n (t .stops) (end-accepted n b (t .larger) (t .smaller) (t .stops) a legal)
@@ -154,7 +148,7 @@ module _ {n : ℕ} {b : List ℤ} (a : Accepted n b) (t : Turn) (roll : Roll (t 
       second = refl;
       unfinished = u;
       dice = roll-byte roll;
-      known = rw (larger-read, smaller-read, number-read, count-length b (t .larger) (t .smaller)) number-known;
+      known = rw (larger-read, smaller-read, number-read, ← (count-is b (t .larger) (t .smaller))) number-known;
     }
 
     pub after-record : afterTurn b (recordOf b t ++ rest) ≡ next t
@@ -183,17 +177,17 @@ module _ {n : ℕ} {b : List ℤ} (a : Accepted n b) (r : List ℕ) (bytes : Byt
       record { low = o .0; ordered = o .1; high = o .2 }
 
   told-known : endNumber r < length (endsOf b (larger r) (smaller r))
-  told-known = omega (arith, f .known, count-length b (larger r) (smaller r))
+  told-known = omega (arith, f .known, count-is b (larger r) (smaller r))
+
+  told-number : place (turnOf b r .stops) (endsOf b (larger r) (smaller r)) ≡ endNumber r
+  told-number =
+      place-once (endsOf b (larger r) (smaller r)) (accepted-once a (larger r) (smaller r) (larger-is-die told-roll) (smaller-is-die told-roll))
+      (endNumber r) told-known
 
   pub told-legal : LegalEnd b (larger r) (smaller r) (turnOf b r .stops)
   told-legal =
       accepted-exact a (larger r) (smaller r) (larger-is-die told-roll) (smaller-is-die told-roll) (turnOf b r .stops) .0
-      (in-getD (endsOf b (larger r) (smaller r)) (endNumber r) told-known)
-
-  told-number : place (turnOf b r .stops) (endsOf b (larger r) (smaller r)) ≡ endNumber r
-  told-number =
-      place-once (endsOf b (larger r) (smaller r)) (endNumber r)
-      (accepted-once a (larger r) (smaller r) (larger-is-die told-roll) (smaller-is-die told-roll)) told-known
+      (in-place (turnOf b r .stops) (endsOf b (larger r) (smaller r)) (omega (arith, told-number, told-known)))
 
   pub told-after : afterTurn b r ≡ next (turnOf b r)
   unfolding afterTurn
