@@ -12,6 +12,5 @@ pub mod Repeats
 pub mod Bound
 pub mod Accepted
 pub mod Switched
-pub mod Boards
-pub mod Starred
+pub mod NoEnds
 pub mod Tried

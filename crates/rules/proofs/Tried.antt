@@ -7,8 +7,8 @@ use lib.ListN.{length}
 use Rattle.ints.specs.Sums.{all}
 use Rattle.position.specs.Board.{start}
 use Rattle.position.specs.Step.{canStep, clearFrom, offFrom, stepped, lifted, landed}
+use Rattle.position.specs.Words.{blank, x, o}
 use Rattle.rules.specs.Ends.{endsOf}
-use Rattle.rules.specs.Cases.{blank, x, o}
 
 start-mixed : length (endsOf start 3 1) ≡ 16
 unfolding endsOf canStep clearFrom offFrom all stepped lifted landed
@@ -53,3 +53,17 @@ order-of-double : endsOf (x 6 1 (x 4 1 (o 20 1 blank))) 1 1
     ≡ map (λ f. f (o 20 1 blank)) (x 6 1 ∷ (λ b. x 5 1 (x 1 1 b)) ∷ (λ b. x 4 1 (x 2 1 b)) ∷ x 3 2 ∷ [])
 unfolding endsOf canStep clearFrom offFrom all stepped lifted landed
 order-of-double = refl
+
+-- document 01, "Boards to try", 2, 4 and 7, where the list of a wrong rule is another: the bear-off by the 6 alone, which would be
+-- one die of two; either die, but not both, so the larger; and one checker that stops over on either of two points
+both-dice : endsOf (x 5 1 (o 20 1 (o 4 1 blank))) 6 1 ≡ o 20 1 (o 0 1 blank) ∷ []
+unfolding endsOf canStep clearFrom offFrom all stepped lifted landed
+both-dice = refl
+
+larger-alone : endsOf (x 25 1 (o 14 2 blank)) 6 5 ≡ x 19 1 (o 14 2 blank) ∷ []
+unfolding endsOf canStep clearFrom offFrom all stepped lifted landed
+larger-alone = refl
+
+both-stopovers : endsOf (x 13 1 (o 12 1 blank)) 2 1 ≡ x 10 1 (o 0 1 blank) ∷ x 10 1 (o 12 1 blank) ∷ []
+unfolding endsOf canStep clearFrom offFrom all stepped lifted landed
+both-stopovers = refl

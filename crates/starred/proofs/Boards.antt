@@ -3,15 +3,17 @@ use mathlib.Core.Path.{_≡_, refl}
 use mathlib.Core.Bool.{Bool, true, false, cond, _&&_}
 use mathlib.Core.List.{List, [], _∷_}
 use Prim.Native.Nat.{ℕ}
-use lib.Dec.{eqb, leb, ltb}
+use lib.Dec.{eqb, ltb}
 use lib.IntN.{ℤ}
 use lib.ListN.{length}
-use Rattle.ints.specs.Sums.{all}
+use Rattle.ints.specs.Bits.{digits, bitsOf}
+use Rattle.ints.specs.Sums.{all, sumTo, total}
 use Rattle.dice.specs.Dice.{isDie}
-use Rattle.position.specs.Board.{xs}
+use Rattle.position.specs.Board.{checkers, xs, refusalOf, startRefusal}
 use Rattle.position.specs.Step.{canStep, clearFrom, offFrom, stepped, lifted, landed}
 use Rattle.rules.specs.Ends.{sameBoard, endsOf}
-use Rattle.rules.specs.Cases.{Case, ends, numberOf, cases}
+use Rattle.key.specs.Key.{lead, rest, countsOf, oSide, bitsRefusal, keyRefusal}
+use Rattle.starred.specs.Cases.{Case, ends, listingRefused, keyRefused, numberOf, cases}
 
 -- 26 entries, and no x on o's bar
 unfoldable pub good : List ℤ → Bool
@@ -23,9 +25,15 @@ same [] (c ∷ cs) = false
 same (b ∷ bs) [] = false
 same (b ∷ bs) (c ∷ cs) = sameBoard b c && same bs cs
 
+-- k is a refusal's number, and r is k
+abbrev pub refuses : ℕ → ℕ → Bool
+refuses k r = ltb 0 k && eqb r k
+
 unfoldable pub passes : Case → Bool
 unfolding good isDie
 passes (ends number b d1 d2 es) = (good b && (isDie d1 && isDie d2)) && same (endsOf b d1 d2) es
+passes (listingRefused number b k) = refuses k (startRefusal checkers b)
+passes (keyRefused number bytes k) = refuses k (keyRefusal checkers bytes)
 
 -- the numbers of the cases that do not pass
 abbrev pub failing : List Case → List ℕ
@@ -33,5 +41,5 @@ failing [] = []
 failing (c ∷ cs) = cond (passes c) (failing cs) (numberOf c ∷ failing cs)
 
 pub passed : failing cases ≡ []
-unfolding passes endsOf canStep clearFrom offFrom all stepped lifted landed
+unfolding passes endsOf canStep clearFrom offFrom all stepped lifted landed startRefusal refusalOf sumTo keyRefusal bitsRefusal total oSide countsOf lead rest bitsOf digits
 passed = refl

@@ -1,0 +1,2 @@
+-- What is told of the starred boards.
+pub mod Cases
