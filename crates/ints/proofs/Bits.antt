@@ -200,10 +200,6 @@ bytes-of (suc n) l zero =
     omega arith
 bytes-of (suc n) l (suc k) = bytes-of n (drop 8 l) k
 
--- bytes of equal number are known by their bits
-pub bits-injective : (k l : List ℕ) → length k ≡ length l → Bytes k → Bytes l → bitsOf k ≡ bitsOf l → k ≡ l
-bits-injective k l n f g e = sym (bytes-bits k f) ∙ ap₂ bytesOf n e ∙ bytes-bits l g
-
 -- ---- bytes that are all 0
 
 pub bytes-zeros : (n : ℕ) → Bytes (replicate n 0)

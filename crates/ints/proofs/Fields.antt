@@ -4,7 +4,7 @@ use mathlib.Core.Bool.{Bool, true, false, cond}
 use mathlib.Core.List.{List, [], _∷_, _++_, append-assoc}
 use Prim.Native.Nat.{ℕ, suc, _+_, _^_, _<_, _≤_}
 use native.Mathlib.Omega.{arith}
-use lib.ListN.{length, getD, set, take, drop, replicate, length-append, length-drop, length-replicate, length-set, replicate-append-replicate}
+use lib.ListN.{length, getD, set, take, drop, replicate, length-append, length-drop, length-set, replicate-append-replicate}
 use lib.Seq.{drop-cons, length-take-le, set-append-seam, take-at, drop-at}
 use Rattle.ints.specs.Bits.{digits, number, merged}
 use Rattle.ints.proofs.Bits.{number-lt, number-digits, length-digits}
@@ -44,12 +44,6 @@ merged-between (d ∷ ds) p r =
 -- the same where only 0s follow
 pub merged-zeros : (ds p : List Bool) (m : ℕ) → merged (p ++ replicate (length ds + m) false) (length p) ds ≡ p ++ (ds ++ replicate m false)
 merged-zeros ds p m = rw (← replicate-append-replicate (length ds) m false) (merged-between ds p (replicate m false))
-
--- n 1s put after p, where 0s stand
-pub ones-after : (p : List Bool) (i n m : ℕ) → length p ≡ i → merged (p ++ replicate (n + m) false) i (replicate n true) ≡ p ++ (replicate n true ++ replicate m false)
-ones-after p i n m e =
-    let h = merged-zeros (replicate n true) p m in
-    rw (length-replicate n true, e) at h
 
 -- a field put after p, where 0s stand
 pub put-after : (p : List Bool) (i w v m : ℕ) → length p ≡ i → merged (p ++ replicate (w + m) false) i (digits w v) ≡ (p ++ digits w v) ++ replicate m false

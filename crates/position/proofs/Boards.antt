@@ -1,20 +1,17 @@
 -- Laws of boards: what the refusals tell, and how small an accepted board's entries are. Stated over the number n of checkers a side.
 -- Assumes nothing.
 use mathlib.Core.Path.{_≡_, refl, sym, ap, _∙_}
-use mathlib.Core.Bool.{Bool, true, false}
 use mathlib.Core.List.{List}
 use mathlib.Core.Logic.{_≢_, ⊎-elim}
 use Prim.Native.Nat.{ℕ, _+_, _-_, _≤_, _<_}
 use native.Mathlib.Decide.{decLt}
 use native.Mathlib.Omega.{arith}
 use borrow.Author.Tests.{lt-ltb, le-ltb, eq-eqb, ne-eqb}
-use lib.Dec.{ltb}
 use lib.IntN.{ℤ, pos}
-use lib.ListN.{length, getD, set, List·getD-eq-default}
+use lib.ListN.{length, set, List·getD-eq-default}
 use lib.Seq.{getD-set-same, getD-set-other, ext-getD}
 use lib.Signed.{mag}
 use Rattle.ints.specs.Signed.{posPart, negPart, Small}
-use Rattle.ints.specs.Sums.{sumTo}
 use Rattle.ints.proofs.Signed.{apart, in-range, same-parts}
 use Rattle.ints.proofs.Sums.{part-le}
 use Rattle.ints.proofs.Tests.{lt-or-le}

@@ -6,7 +6,7 @@ use Prim.Native.Nat.{ℕ, _+_, _-_, _≤_, _<_}
 use native.Mathlib.Decide.{ℕ-discrete, decLt}
 use native.Mathlib.Omega.{arith}
 use borrow.Author.Tests.{eq-eqb, ne-eqb, lt-ltb, le-ltb}
-use lib.IntN.{ℤ, pos, negsuc, sucℤ, predℤ, _+ℤ_, _-ℤ_}
+use lib.IntN.{ℤ, pos, sucℤ, predℤ, _+ℤ_, _-ℤ_}
 use lib.ListN.{set}
 use lib.Seq.{getD-set-other}
 use mir.Syntax.{w8}

@@ -8,11 +8,10 @@ use Prim.Native.Nat.{ℕ, _+_, _-_, _≤_, _<_}
 use native.Mathlib.Decide.{ℕ-discrete, decLt}
 use native.Mathlib.Omega.{arith}
 use lib.Dec.{leb, ltb, eqb}
-use borrow.Author.Tests.{ltb-true, ltb-false, eqb-true, eqb-false, leb-true, lt-ltb, le-ltb, le-leb, eq-eqb, ne-eqb}
+use borrow.Author.Tests.{ltb-true, eqb-true, leb-true, lt-ltb, le-ltb, le-leb, eq-eqb, ne-eqb}
 use lib.IntN.{ℤ, pos, sucℤ, predℤ}
 use lib.ListN.{length, set, length-set}
-use Rattle.ints.specs.Signed.{posPart, negPart}
-use Rattle.ints.specs.Sums.{sumTo, all, one}
+use Rattle.ints.specs.Sums.{sumTo, one}
 use Rattle.ints.proofs.Signed.{pred-above, pred-below, suc-above}
 use Rattle.ints.proofs.Sums.{sum-same, sum-zero, sum-plus, sum-one, one-same, one-other}
 use Rattle.ints.proofs.Tests.{and-left, and-right, and-both, all-yes, all-no, all-at}

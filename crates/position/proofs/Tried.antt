@@ -1,7 +1,7 @@
 -- The definitions computed at closed boards (document 01, "Boards to try" and the start board).
 use mathlib.Core.Path.{_≡_, refl}
-use mathlib.Core.Bool.{Bool, true, false}
-use mathlib.Core.List.{List, [], _∷_}
+use mathlib.Core.Bool.{true}
+use mathlib.Core.List.{List}
 use lib.IntN.{ℤ, pos, negsuc}
 use lib.ListN.{set, replicate}
 use Rattle.ints.specs.Answer.{value, refused}

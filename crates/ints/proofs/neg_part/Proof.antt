@@ -1,9 +1,8 @@
 -- `ints::neg_part` meets its contract: minus a number below 0 is its negative part, and 32 bits hold it.
-use mathlib.Core.Path.{_≡_, refl, sym, _∙_, ap}
 use native.Mathlib.Omega.{arith}
-use lib.IntN.{ℤ, pos, natAbs, _-ℤ_}
+use lib.IntN.{ℤ, pos, _-ℤ_}
 use mir.Syntax.{w8, w32}
-use mir.Val.{toZ, ofZ, SFits}
+use mir.Val.{SFits}
 use mir.ValLaws.{toZ-ofZ}
 use Prim.Native.Nat.{_≤_, _<_}
 use Rattle.ints.specs.Signed.{posPart, negPart}

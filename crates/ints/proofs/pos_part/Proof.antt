@@ -1,10 +1,7 @@
 -- `ints::pos_part` meets its contract: a number above 0 is its own positive part.
-use mathlib.Core.Path.{_≡_, sym, _∙_, ap}
 use native.Mathlib.Omega.{arith}
-use lib.IntN.{ℤ, pos, natAbs}
-use lib.Signed.{ltZ}
+use lib.IntN.{pos}
 use mir.Syntax.{w8}
-use mir.Val.{toZ, ofZ}
 use mir.ValLaws.{toZ-ofZ}
 use Rattle.ints.proofs.Signed.{apart, lt-yes, lt-no, abs-parts, not-neg, posPart-lt}
 use Rattle.ints.proofs.pos_part.Statement.{statement}

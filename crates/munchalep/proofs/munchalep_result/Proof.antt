@@ -1,5 +1,5 @@
 -- `munchalep::munchalep_result` meets its contract: the number of what the crate `position` answers.
-use mathlib.Core.Path.{_≡_, ap, _∙_}
+use mathlib.Core.Path.{ap, _∙_}
 use borrow.Author.Needs.{needs}
 use Rattle.ints.specs.Answer.{packed}
 use Rattle.munchalep.proofs.munchalep_result.Statement.{statement}

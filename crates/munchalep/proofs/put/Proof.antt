@@ -1,5 +1,5 @@
 -- `munchalep::put` meets its contract: the board is stored exactly where the number is 0.
-use mathlib.Core.Path.{_≡_, refl, sym}
+use mathlib.Core.Path.{refl, sym}
 use borrow.Author.Needs.{needs}
 use borrow.Author.Tests.{eq-eqb, ne-eqb}
 use Rattle.munchalep.specs.Lent.{after}

@@ -1,5 +1,5 @@
 -- `position::move_single_checker` meets its contract: the entries are small enough that each sum fits, and the stored board is the definition's.
-use mathlib.Core.Path.{_≡_, sym, ap, _∙_}
+use mathlib.Core.Path.{_≡_, ap, _∙_}
 use Prim.Native.Nat.{ℕ, _-_}
 use native.Mathlib.Omega.{arith}
 use borrow.Author.Needs.{needs}
