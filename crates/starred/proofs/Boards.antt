@@ -10,10 +10,15 @@ use Rattle.ints.specs.Bits.{digits, bitsOf}
 use Rattle.ints.specs.Sums.{all, sumTo, total}
 use Rattle.dice.specs.Dice.{isDie}
 use Rattle.position.specs.Board.{checkers, xs, refusalOf, startRefusal}
+use Rattle.position.specs.Phase.{highest}
 use Rattle.position.specs.Step.{canStep, clearFrom, offFrom, stepped, lifted, landed}
 use Rattle.rules.specs.Ends.{sameBoard, endsOf}
+use Rattle.moves.specs.Answers.{playRefusal}
+use Rattle.bg_move.specs.declared.Step.{Step}
+use Rattle.bg_move.specs.Steps.{lost, lostNext, leads, leadsBoth, oneChecker, twoCheckers, mixedSteps, doubleSteps, stepsOf}
+use Rattle.bg_move.specs.Answers.{recoverRefusal, recovered}
 use Rattle.key.specs.Key.{lead, rest, countsOf, oSide, bitsRefusal, keyRefusal}
-use Rattle.starred.specs.Cases.{Case, ends, listingRefused, keyRefused, numberOf, cases}
+use Rattle.starred.specs.Cases.{Case, ends, steps, recoveryRefused, listingRefused, keyRefused, numberOf, cases}
 
 -- 26 entries, and no x on o's bar
 unfoldable pub good : List ℤ → Bool
@@ -25,6 +30,12 @@ same [] (c ∷ cs) = false
 same (b ∷ bs) [] = false
 same (b ∷ bs) (c ∷ cs) = sameBoard b c && same bs cs
 
+abbrev pub sameSteps : List Step → List Step → Bool
+sameSteps [] [] = true
+sameSteps [] (t ∷ ts) = false
+sameSteps (s ∷ ss) [] = false
+sameSteps (s ∷ ss) (t ∷ ts) = (eqb (s .from) (t .from) && eqb (s .to) (t .to)) && sameSteps ss ts
+
 -- k is a refusal's number, and r is k
 abbrev pub refuses : ℕ → ℕ → Bool
 refuses k r = ltb 0 k && eqb r k
@@ -32,6 +43,8 @@ refuses k r = ltb 0 k && eqb r k
 unfoldable pub passes : Case → Bool
 unfolding good isDie
 passes (ends number b d1 d2 es) = (good b && (isDie d1 && isDie d2)) && same (endsOf b d1 d2) es
+passes (steps number b d1 d2 e ts) = eqb (recoverRefusal checkers b d1 d2 e) 0 && sameSteps (recovered checkers b d1 d2 e) ts
+passes (recoveryRefused number b d1 d2 e k) = refuses k (recoverRefusal checkers b d1 d2 e)
 passes (listingRefused number b k) = refuses k (startRefusal checkers b)
 passes (keyRefused number bytes k) = refuses k (keyRefusal checkers bytes)
 
@@ -41,5 +54,5 @@ failing [] = []
 failing (c ∷ cs) = cond (passes c) (failing cs) (numberOf c ∷ failing cs)
 
 pub passed : failing cases ≡ []
-unfolding passes endsOf canStep clearFrom offFrom all stepped lifted landed startRefusal refusalOf sumTo keyRefusal bitsRefusal total oSide countsOf lead rest bitsOf digits
+unfolding passes endsOf canStep clearFrom offFrom all stepped lifted landed startRefusal refusalOf sumTo playRefusal recoverRefusal recovered stepsOf mixedSteps doubleSteps oneChecker twoCheckers leadsBoth leads lost lostNext highest keyRefusal bitsRefusal total oSide countsOf lead rest bitsOf digits
 passed = refl
