@@ -13,3 +13,5 @@ pub mod Refusals
 pub mod Prefixes
 pub mod Unique
 pub mod Tried
+pub mod TurnRead
+pub mod Replays

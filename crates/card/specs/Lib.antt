@@ -3,3 +3,4 @@ pub mod Game
 pub mod Card
 pub mod Read
 pub mod Answers
+pub mod Replay
