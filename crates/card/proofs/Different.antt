@@ -32,9 +32,8 @@ different-turns {n} {b} a (t ∷ ts) (u ∷ us) p q e =
     let l : t .larger ≡ u .larger = sym (larger-read a t (p .1) (p .2) x) ∙ ap larger e ∙ larger-read a u (q .1) (q .2) y in
     let s : t .smaller ≡ u .smaller = sym (smaller-read a t (p .1) (p .2) x) ∙ ap smaller e ∙ smaller-read a u (q .1) (q .2) y in
     let k = sym (number-read a t (p .1) (p .2) x) ∙ ap endNumber e ∙ number-read a u (q .1) (q .2) y in
-    let f : t .stops ≡ u .stops =
-    sym (number-names a t (p .1) (p .2)) ∙ ap₂ (λ (c : List (List ℤ)) (i : ℕ). getD c i []) (ap₂ (endsOf b) l s) k ∙ number-names a u (q .1) (q .2) in
-    let same : t ≡ u = same-turn t u l s f in
+    let named = ap₂ (λ (c : List (List ℤ)) (i : ℕ). getD c i []) (ap₂ (endsOf b) l s) k in
+    let same : t ≡ u = same-turn t u l s (sym (number-names a t (p .1) (p .2)) ∙ named ∙ number-names a u (q .1) (q .2)) in
     let rest : recordsOf (next t) ts ≡ recordsOf (next t) us = ap (drop 5) e ∙ ap (λ (v : Turn). recordsOf (next v) us) (sym same) in
     ap₂ _∷_ same (different-turns (next-accepted a t (p .1) (p .2)) ts us (p .3) (subst (λ (v : Turn). Played (next v) us) (sym same) (q .3)) rest)
 

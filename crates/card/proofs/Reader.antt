@@ -30,11 +30,11 @@ unfolding readFrom
 read-end zero card k h = rw (le-ltb (turnAt k) (length card) h)
 read-end (suc left) card k h = rw (le-ltb (turnAt k) (length card) h)
 
-module _ (left : ℕ) (card : List ℕ) (k : ℕ) (h : turnAt k < length card) where
-  pub read-over : readFrom 0 card k ≡ refused 22 (turnAt k)
-  unfolding readFrom
-  read-over = rw (lt-ltb (turnAt k) (length card) h)
+pub read-over : (card : List ℕ) (k : ℕ) → turnAt k < length card → readFrom 0 card k ≡ refused 22 (turnAt k)
+unfolding readFrom
+read-over card k h = rw (lt-ltb (turnAt k) (length card) h)
 
+module _ (left : ℕ) (card : List ℕ) (k : ℕ) (h : turnAt k < length card) where
   pub read-on : refusalAt card k ≡ 0 → readFrom (suc left) card k ≡ readFrom left card (suc k)
   unfolding readFrom
   read-on e = rw (lt-ltb (turnAt k) (length card) h, e)
@@ -86,7 +86,7 @@ last-step card k = go (ltb (turnAt k) (length card)) refl
   where
     go : (more : Bool) → ltb (turnAt k) (length card) ≡ more → LastStep card k (readFrom 0 card k)
     go false e = let h = ltb-false (turnAt k) (length card) e in LastStep.ends h (read-end 0 card k h)
-    go true e = let h = ltb-true (turnAt k) (length card) e in over h (read-over 0 card k h)
+    go true e = let h = ltb-true (turnAt k) (length card) e in over h (read-over card k h)
 
 -- the same of the start record
 pub data FirstStep (n : ℕ) (card : List ℕ) (answer after : Answer) : Type 0 where

@@ -99,7 +99,7 @@ first-refusal n m card r p = ((λ e. subst (Tells n m card) e (answer-tells n m 
         ∙ ap₂ refused e (sym q)
     back (too-many s h e q) =
         let left : m - m ≡ 0 = omega arith in
-        reads-on n m card m s (omega arith) ∙ ap (λ (i : ℕ). readFrom i card m) left ∙ read-over 0 card m h ∙ ap₂ refused (sym e) (sym q)
+        reads-on n m card m s (omega arith) ∙ ap (λ (i : ℕ). readFrom i card m) left ∙ read-over card m h ∙ ap₂ refused (sym e) (sym q)
 
 pub read-exactly : (n m : ℕ) (card : List ℕ) (k : ℕ) → (readAnswer n m card ≡ value k) ↔ EndsAfter n m card k
 read-exactly n m card k = (

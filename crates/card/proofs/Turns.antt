@@ -2,14 +2,16 @@
 -- Stated over the number n of checkers a side. Assumes nothing.
 use mathlib.Core.Path.{_≡_, refl, _∙_}
 use mathlib.Core.Bool.{Bool, true, false, cond, _&&_, _||_}
+use mathlib.Core.Logic.{_⊎_, inl, inr}
 use mathlib.Core.List.{List, [], _∷_, _++_, map}
-use Prim.Native.Nat.{ℕ, zero, suc, _+_, _/_, _%_, _≤_, _<_}
+use Prim.Native.Nat.{ℕ, zero, suc, _+_, _/_, _%_, _≤_, _<_, min, max}
 use native.Mathlib.Omega.{arith}
 use lib.Dec.{ltb, eqb}
 use lib.IntN.{ℤ}
 use lib.ListN.{length, getD, drop}
 use borrow.Author.Tests.{ltb-true, ltb-false, lt-ltb, le-ltb, le-leb, eqb-true, eqb-false, eq-eqb, ne-eqb}
 use Rattle.ints.specs.Bits.{Bytes}
+use Rattle.ints.proofs.Tests.{lt-or-le}
 use Rattle.dice.specs.Rolls.{byteOf, rolls}
 use Rattle.dice.specs.Dice.{isByteIn, Die}
 use Rattle.dice.proofs.Bytes.{in-range, in-order}
@@ -17,6 +19,7 @@ use Rattle.position.specs.Board.{Accepted, xAll, oAll, switched}
 use Rattle.position.proofs.SideSwitch.{switched-accepted}
 use Rattle.rules.specs.Plays.{LegalEnd}
 use Rattle.rules.specs.Ends.{endsOf, switchedEndsOf, In}
+use Rattle.rules.proofs.Dice.{dice-order, legal-order}
 use Rattle.rules.proofs.Exact.{accepted-exact, accepted-once}
 use Rattle.rules.proofs.Accepted.{end-accepted}
 use Rattle.moves.specs.Answers.{endsCount}
@@ -103,6 +106,22 @@ roll-byte {l} {s} r =
     let x : b / 16 ≡ l = omega arith in
     let y : b % 16 ≡ s = omega arith in
     rw (in-range b (omega arith), x, y, le-leb 1 s (r .low), le-leb s l (r .ordered), le-leb l 6 (r .high))
+
+-- the dice in either order are their roll
+module _ (d1 d2 : ℕ) (b : List ℤ) where
+  pub ends-by-size : endsOf b d1 d2 ≡ endsOf b (max d1 d2) (min d1 d2)
+  ends-by-size = go (lt-or-le d1 d2)
+    where
+      go : (d1 < d2) ⊎ (d2 ≤ d1) → endsOf b d1 d2 ≡ endsOf b (max d1 d2) (min d1 d2)
+      go (inl h) = let l : max d1 d2 ≡ d2 = omega arith in let s : min d1 d2 ≡ d1 = omega arith in rw (l, s) (dice-order d1 d2 b)
+      go (inr h) = let l : max d1 d2 ≡ d1 = omega arith in let s : min d1 d2 ≡ d2 = omega arith in rw (l, s)
+
+  pub legal-by-size : (e : List ℤ) → LegalEnd b d1 d2 e → LegalEnd b (max d1 d2) (min d1 d2) e
+  legal-by-size e legal = go (lt-or-le d1 d2)
+    where
+      go : (d1 < d2) ⊎ (d2 ≤ d1) → LegalEnd b (max d1 d2) (min d1 d2) e
+      go (inl h) = let l : max d1 d2 ≡ d2 = omega arith in let s : min d1 d2 ≡ d1 = omega arith in rw (l, s) (legal-order d1 d2 b e legal)
+      go (inr h) = let l : max d1 d2 ≡ d1 = omega arith in let s : min d1 d2 ≡ d2 = omega arith in rw (l, s) legal
 
 -- ---- the ends by their numbers
 

@@ -4,7 +4,7 @@
 use mathlib.Core.Path.{_≡_, refl, sym, ap, ap₂, _∙_}
 use mathlib.Core.Bool.{Bool, true, false, cond, _&&_}
 use mathlib.Core.List.{List, [], _∷_, _++_}
-use mathlib.Core.Logic.{_↔_, _⊎_, inl, inr}
+use mathlib.Core.Logic.{_↔_}
 use Prim.Native.Nat.{ℕ, _+_, _≤_, _<_, min, max}
 use native.Mathlib.Omega.{arith}
 use lib.Dec.{ltb}
@@ -13,14 +13,11 @@ use lib.ListN.{length, take}
 use borrow.Author.Tests.{ltb-true, ltb-false}
 use Rattle.ints.specs.Answer.{Answer, value, refused}
 use Rattle.ints.specs.Bits.{Bytes}
-use Rattle.ints.proofs.Tests.{lt-or-le}
 use Rattle.dice.specs.Dice.{isDie}
 use Rattle.dice.proofs.TwoDice.{die-range, test-die}
 use Rattle.position.specs.Board.{Accepted, startRefusal}
 use Rattle.position.proofs.Boards.{unrefused-accepted}
-use Rattle.rules.specs.Plays.{LegalEnd}
 use Rattle.rules.specs.Ends.{switchedEndsOf}
-use Rattle.rules.proofs.Dice.{legal-order}
 use Rattle.moves.specs.Answers.{endsCount}
 use Rattle.end_number.specs.Number.{place}
 use Rattle.end_number.proofs.Place.{number-legal}
@@ -31,7 +28,7 @@ use Rattle.card.specs.Answers.{beginAnswer, turnAnswer, addFrom, addAnsw
 use Rattle.card.proofs.Bytes.{bytes-take}
 use Rattle.card.proofs.Reader.{no-value}
 use Rattle.card.proofs.Starts.{unrefused-start}
-use Rattle.card.proofs.Turns.{unfinished-test}
+use Rattle.card.proofs.Turns.{unfinished-test, legal-by-size}
 use Rattle.card.proofs.Reading.{card-positions}
 use Rattle.card.proofs.Accepts.{CardOfGame, accepts-games}
 use Rattle.card.proofs.Longer.{lastBoard, game-more, game-last}
@@ -64,15 +61,6 @@ begins-exactly n s room r size = (
   begins-only n s room r size,
   λ b. begins (b .accepted) (b .unfinished) room (b .space) ∙ ap value (sym (b .new)),
 )
-
--- ---- the dice in either order
-
-legal-by-size : (d1 d2 : ℕ) (b e : List ℤ) → LegalEnd b d1 d2 e → LegalEnd b (max d1 d2) (min d1 d2) e
-legal-by-size d1 d2 b e l = go (lt-or-le d1 d2)
-  where
-    go : (d1 < d2) ⊎ (d2 ≤ d1) → LegalEnd b (max d1 d2) (min d1 d2) e
-    go (inl h) = let x : max d1 d2 ≡ d2 = omega arith in let y : min d1 d2 ≡ d1 = omega arith in rw (x, y) (legal-order d1 d2 b e l)
-    go (inr h) = let x : max d1 d2 ≡ d1 = omega arith in let y : min d1 d2 ≡ d2 = omega arith in rw (x, y) l
 
 -- ---- adding a turn
 
@@ -126,15 +114,16 @@ pub record AddsTo (n m : ℕ) (buffer : List ℕ) (len d1 d2 : ℕ) (e : List �
   pub new : r ≡ len + 5
 
 module _ {n m : ℕ} (few : n ≤ 15) (buffer : List ℕ) (bytes : Bytes buffer) (len d1 d2 : ℕ) (e : List ℤ) (r : ℕ) where
+  at-last : (k : ℕ) (c : CardOfGame n m (take len buffer) k) → boardAfter (take len buffer) k ≡ lastBoard (c .start) (c .turns)
+  at-last k c = ap₂ boardAfter (c .card-is) (sym (c .count)) ∙ card-positions few (c .game) (length (c .turns)) (omega arith)
+
   added-to : (k : ℕ) → CardOfGame n m (take len buffer) k → turnAnswer m (boardAfter (take len buffer) k) k d1 d2 e (length buffer) len ≡ value r
       → AddsTo n m buffer len d1 d2 e r
   added-to k c t =
       let g = c .game in
       let size = c .count in
       let b = lastBoard (c .start) (c .turns) in
-      let here : boardAfter (take len buffer) k ≡ b =
-      ap₂ boardAfter (c .card-is) (sym size) ∙ card-positions few g (length (c .turns)) (omega arith) in
-      let w = allowed m b k d1 d2 e (length buffer) len r (rw here at t) in
+      let w = allowed m b k d1 d2 e (length buffer) len r (rw (at-last k c) at t) in
       let f = number-legal n b d1 d2 (game-last g) (test-die d1 (w .first)) (test-die d2 (w .second)) e .0 (w .known) in
       let one = die-range d1 (w .first) in
       let two = die-range d2 (w .second) in

@@ -3,7 +3,6 @@
 use mathlib.Core.Path.{_≡_, sym, ap, ap₂, _∙_}
 use mathlib.Core.Bool.{true}
 use mathlib.Core.List.{List, [], _∷_, _++_, append-assoc, append-nil}
-use mathlib.Core.Logic.{_⊎_, inl, inr}
 use Prim.Native.Nat.{ℕ, suc, _+_, _*_, _≤_, _<_, min, max}
 use native.Mathlib.Omega.{arith}
 use lib.IntN.{ℤ}
@@ -11,12 +10,10 @@ use lib.ListN.{length, take, drop, length-append, length-drop, take-append-drop}
 use lib.Seq.{take-at, length-take-le, drop-append-add, drop-drop}
 use borrow.Author.Tests.{lt-ltb, le-ltb}
 use Rattle.ints.specs.Answer.{Answer, value}
-use Rattle.ints.proofs.Tests.{lt-or-le}
 use Rattle.dice.specs.Dice.{isDie}
 use Rattle.dice.proofs.TwoDice.{range-die, test-die}
 use Rattle.position.specs.Board.{Accepted}
 use Rattle.rules.specs.Ends.{endsOf, switchedEndsOf}
-use Rattle.rules.proofs.Dice.{dice-order}
 use Rattle.rules.proofs.Accepted.{end-accepted}
 use Rattle.moves.specs.Answers.{endsCount}
 use Rattle.moves.proofs.Entries.{count-is}
@@ -28,7 +25,7 @@ use Rattle.card.specs.Card.{startRecord, recordOf, cardOf}
 use Rattle.card.specs.Read.{turnAt, boardAfter, readAnswer}
 use Rattle.card.specs.Answers.{beginAnswer, begunIn, turnAnswer, addAnswer, addedRecord, lastFrom, lentAfter, addedIn}
 use Rattle.card.proofs.Starts.{start-unrefused, length-start}
-use Rattle.card.proofs.Turns.{not-finished, number-known}
+use Rattle.card.proofs.Turns.{not-finished, ends-by-size, number-known}
 use Rattle.card.proofs.Reading.{card-read, card-positions}
 use Rattle.card.proofs.Longer.{lastBoard, CanAdd, played-last, game-first, game-last, length-card, card-more}
 
@@ -50,17 +47,8 @@ module _ {n : ℕ} {s : List ℤ} (a : Accepted n s) (u : Unfinished s) where
     pub begun-holds : take 12 (begunIn n s buffer) ≡ cardOf s []
     begun-holds = ap (take 12) begun-card ∙ take-at (cardOf s []) (drop 12 buffer) 12 (length-card s [])
 
--- ---- the dice in either order
+-- ---- a turn that can be added, its dice in either order and its end given switched
 
-module _ (d1 d2 : ℕ) (b : List ℤ) where
-  pub ends-by-size : endsOf b d1 d2 ≡ endsOf b (max d1 d2) (min d1 d2)
-  ends-by-size = go (lt-or-le d1 d2)
-    where
-      go : (d1 < d2) ⊎ (d2 ≤ d1) → endsOf b d1 d2 ≡ endsOf b (max d1 d2) (min d1 d2)
-      go (inl h) = let x : max d1 d2 ≡ d2 = omega arith in let y : min d1 d2 ≡ d1 = omega arith in rw (x, y) (dice-order d1 d2 b)
-      go (inr h) = let x : max d1 d2 ≡ d1 = omega arith in let y : min d1 d2 ≡ d2 = omega arith in rw (x, y)
-
--- the number of a legal end, given by its switched board
 module _ {n : ℕ} {b : List ℤ} (a : Accepted n b) (t : Turn) (c : CanAdd b t) (d1 d2 : ℕ) (l : max d1 d2 ≡ t .larger) (s : min d1 d2 ≡ t .smaller) where
   first-die : isDie d1 ≡ true
   first-die = let r = c .roll in range-die d1 (omega arith) (omega arith)
@@ -134,9 +122,12 @@ module _ {n m : ℕ} (few : n ≤ 15) {s : List ℤ} (ts : List Turn) (t : Turn)
 
   pub added-holds : take (len + 5) (addedIn n m buffer len d1 d2 (next t)) ≡ cardOf s (ts ++ (t ∷ []))
   added-holds =
-      let long : length (cardOf s (ts ++ (t ∷ []))) ≡ len + 5 =
-      omega (arith, length-card s (ts ++ (t ∷ [])), length-append ts (t ∷ []), ap length holds, length-card s ts, length-take-le len buffer (omega arith)) in
-      ap (take (len + 5)) added-card ∙ take-at (cardOf s (ts ++ (t ∷ []))) (drop (len + 5) buffer) (len + 5) long
+      let old = length-card s ts in
+      let new = length-card s (ts ++ (t ∷ [])) in
+      let held = length-take-le len buffer (omega arith) in
+      let same = ap length holds in
+      ap (take (len + 5)) added-card
+      ∙ take-at (cardOf s (ts ++ (t ∷ []))) (drop (len + 5) buffer) (len + 5) (omega (arith, length-append ts (t ∷ [])))
 
 -- ---- the writers called turn by turn
 
