@@ -1,7 +1,9 @@
 -- The definitions at the card that document 01 prints.
 use mathlib.Core.Path.{_≡_, refl}
 use mathlib.Core.List.{List, [], _∷_, _++_}
+use mathlib.Core.Logic.{inl}
 use Prim.Native.Nat.{ℕ}
+use native.Mathlib.Omega.{arith}
 use lib.IntN.{ℤ, pos, negsuc}
 use lib.ListN.{take, set, replicate}
 use Rattle.ints.specs.Answer.{value, refused}
@@ -9,13 +11,16 @@ use Rattle.ints.specs.Bits.{bitsOf, digits, bytesOf, number, some}
 use Rattle.ints.specs.Sums.{all, values, total, sumTo}
 use Rattle.dice.specs.Dice.{isDie, isByteIn}
 use Rattle.dice.specs.Rolls.{rolls}
-use Rattle.position.specs.Board.{checkers, switched, refusalOf, startRefusal}
+use Rattle.position.specs.Board.{Accepted, checkers, switched, refusalOf, startRefusal}
+use Rattle.position.proofs.Boards.{unrefused-accepted}
 use Rattle.position.specs.Step.{canStep, clearFrom, offFrom, stepped, lifted, landed}
+use Rattle.rules.specs.Plays.{LegalEnd}
 use Rattle.rules.specs.Ends.{endsOf, switchedEndsOf}
+use Rattle.rules.proofs.Exact.{accepted-exact}
 use Rattle.moves.specs.Answers.{endsCount}
 use Rattle.key.specs.Key.{boardOf, keyOf, keyBits, counts, runs, keyRefusal, bitsRefusal, boardFrom, lead, rest, countsOf, restOf, oSide, xSide}
 use Rattle.end_number.specs.Number.{place}
-use Rattle.card.specs.Game.{turnsMost, Turn}
+use Rattle.card.specs.Game.{turnsMost, Turn, Unfinished, Game}
 use Rattle.card.specs.Card.{cardOf}
 use Rattle.card.specs.Read.{startRecordRefusal, turnRefusal, afterTurn, boardAfter, readFrom, readAnswer}
 use Rattle.card.specs.Answers.{beginAnswer, begunIn, turnAnswer, addAnswer, addedIn}
@@ -62,3 +67,27 @@ is-begun = refl
 is-added : addedIn checkers turnsMost (take 12 card ++ replicate 6 7) 12 1 6 (switched (off .stops)) ≡ card ++ (7 ∷ [])
 unfolding addedIn addAnswer turnAnswer readAnswer startRecordRefusal keyRefusal bitsRefusal bitsOf digits oSide xSide countsOf restOf lead rest total some startRefusal refusalOf readFrom turnRefusal boardAfter afterTurn boardOf boardFrom values isDie isByteIn rolls endsCount switchedEndsOf endsOf place canStep clearFrom offFrom all stepped lifted landed sumTo switched
 is-added = refl
+
+-- ---- the same by the rules of play alone: it is the card of a game of one turn
+
+start-accepted : Accepted checkers lone
+unfolding refusalOf sumTo
+start-accepted = unrefused-accepted checkers lone refl refl
+
+start-unfinished : Unfinished lone
+unfolding sumTo
+start-unfinished = record { x = omega arith; o = omega arith }
+
+bears-off : LegalEnd lone 6 1 (off .stops)
+unfolding endsOf canStep clearFrom offFrom all stepped lifted landed
+bears-off =
+    accepted-exact start-accepted 6 1 (record { low = omega arith; high = omega arith }) (record { low = omega arith; high = omega arith }) (off .stops) .0
+    (inl refl)
+
+game : Game checkers turnsMost lone (off ∷ [])
+game = record {
+  accepted = start-accepted;
+  unfinished = start-unfinished;
+  played = (start-unfinished, record { low = omega arith; ordered = omega arith; high = omega arith }, bears-off, tt);
+  few = omega arith;
+}
