@@ -18,7 +18,7 @@ use Rattle.card.specs.Game.{Roll, Turn, Played, Game, next}
 use Rattle.card.specs.Card.{startRecord, recordOf, recordsOf, cardOf}
 use Rattle.card.specs.Read.{startKey, turnAt, afterTurn, boardAfter, readFrom, readAnswer}
 use Rattle.card.proofs.Bytes.{bytes-append, bytes-drop}
-use Rattle.card.proofs.Reader.{no-value, refusalAt, next-record, Step, ends, refuses, goes, read-step, LastStep, over, last-step, FirstStep, begins, first-step}
+use Rattle.card.proofs.Records.{no-value, refusalAt, next-record, Step, ends, refuses, goes, read-step, LastStep, over, last-step, FirstStep, begins, first-step}
 use Rattle.card.proofs.Starts.{unrefused-begun, begun-accepted, begun-unfinished, begun-record}
 use Rattle.card.proofs.Turns.{Fine, unrefused-fine, turnOf, told-roll, told-legal, told-after, told-record, number-known, next-accepted}
 use Rattle.card.proofs.Reading.{card-read}

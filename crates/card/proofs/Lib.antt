@@ -2,7 +2,7 @@
 pub mod Bytes
 pub mod Turns
 pub mod Starts
-pub mod Reader
+pub mod Records
 pub mod Reading
 pub mod Accepts
 pub mod Different

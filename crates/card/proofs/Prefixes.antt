@@ -10,7 +10,7 @@ use borrow.Author.Tests.{le-ltb}
 use Rattle.ints.specs.Answer.{Answer, value, refused}
 use Rattle.key.specs.Key.{boardOf}
 use Rattle.card.specs.Read.{startKey, startRecordRefusal, turnAt, turnRefusal, afterTurn, boardAfter, readFrom, readAnswer}
-use Rattle.card.proofs.Reader.{refusalAt}
+use Rattle.card.proofs.Records.{refusalAt}
 use Rattle.card.proofs.Refusals.{ReadTo, in-start, in-turn, too-many, Tells, answer-tells, reads-on, read-exactly}
 
 -- ---- a record is judged by its own bytes

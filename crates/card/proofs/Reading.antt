@@ -13,7 +13,7 @@ use Rattle.card.specs.Game.{Turn, Played, Game, next, positions}
 use Rattle.card.specs.Card.{recordOf, recordsOf, cardOf}
 use Rattle.card.specs.Read.{turnAt, turnRefusal, boardAfter, readFrom, readAnswer}
 use Rattle.card.specs.Answers.{noPosition, positionAnswer}
-use Rattle.card.proofs.Reader.{next-record, read-end, read-on, read-begins}
+use Rattle.card.proofs.Records.{next-record, read-end, read-on, read-begins}
 use Rattle.card.proofs.Starts.{start-read, start-begun, begun-unrefused, after-start}
 use Rattle.card.proofs.Turns.{fine-unrefused, record-fine, after-record, next-accepted}
 

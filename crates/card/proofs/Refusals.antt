@@ -9,7 +9,7 @@ use lib.ListN.{length}
 use Rattle.ints.specs.Answer.{Answer, value, refused}
 use Rattle.ints.proofs.Tests.{last}
 use Rattle.card.specs.Read.{startRecordRefusal, turnAt, readFrom, readAnswer}
-use Rattle.card.proofs.Reader.{refusalAt, read-end, read-over, read-on, read-refused, read-begins, read-unbegun, Step, ends, refuses, goes, read-step, LastStep, over, last-step, FirstStep, begins, first-step}
+use Rattle.card.proofs.Records.{refusalAt, read-end, read-over, read-on, read-refused, read-begins, read-unbegun, Step, ends, refuses, goes, read-step, LastStep, over, last-step, FirstStep, begins, first-step}
 
 -- the start record and the first k turns of a card are there and not refused
 pub record ReadTo (n : ℕ) (card : List ℕ) (k : ℕ) : Type 0 where

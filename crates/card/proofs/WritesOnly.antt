@@ -26,7 +26,7 @@ use Rattle.card.specs.Card.{cardOf}
 use Rattle.card.specs.Read.{finished, boardAfter, readAnswer}
 use Rattle.card.specs.Answers.{beginAnswer, turnAnswer, addFrom, addAnswer}
 use Rattle.card.proofs.Bytes.{bytes-take}
-use Rattle.card.proofs.Reader.{no-value}
+use Rattle.card.proofs.Records.{no-value}
 use Rattle.card.proofs.Starts.{unrefused-start}
 use Rattle.card.proofs.Turns.{unfinished-test, legal-by-size}
 use Rattle.card.proofs.Reading.{card-positions}

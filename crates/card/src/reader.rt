@@ -159,7 +159,7 @@ fn is_marked(card: &[u8], at: usize, first: u8, second: u8) -> bool
 }
 
 // The key of the start record.
-fn key_bytes(card: &[u8]) -> [u8; 10]
+pub fn key_bytes(card: &[u8]) -> [u8; 10]
     requires { ⌜ 12 ≤ length (now card) ⌝ }
     ensures { λ r. ⌜ r ≡ startKey (now (card .entry)) ⌝ }
 {
