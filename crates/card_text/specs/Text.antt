@@ -1,7 +1,7 @@
 -- The text that the card program prints (document 01, "Game card"), as bytes.
 use mathlib.Core.Bool.{cond}
 use mathlib.Core.List.{List, [], _∷_, _++_}
-use Prim.Native.Nat.{ℕ, zero, suc, _+_, _/_, _%_}
+use Prim.Native.Nat.{ℕ, zero, suc, _+_, _*_, _/_, _%_}
 use lib.Dec.{ltb}
 use lib.IntN.{ℤ}
 use lib.ListN.{length, getD, drop}
@@ -96,3 +96,15 @@ textFrom n (refused number at) card = refusedLine number at
 -- "Game card": the text of a card of at most m turns, with n checkers a side
 unfoldable pub textOf : ℕ → ℕ → List ℕ → List ℕ
 textOf n m card = textFrom n (readAnswer n m card) card
+
+-- ours: room for the text of any card: 27 bytes for the first line, at most 42 a turn, at most 13 for the last
+abbrev pub textRoom : ℕ → ℕ
+textRoom m = 40 + 42 * m
+
+-- ours: the number of bytes of a card's text; 0 where the lent memory has not the room for any card's
+unfoldable pub textAnswer : ℕ → ℕ → List ℕ → ℕ → ℕ
+textAnswer n m card room = cond (ltb room (textRoom m)) 0 (length (textOf n m card))
+
+-- ours: the lent memory afterwards: the text, and the bytes after it as they were; all of it as it was where it has not the room
+unfoldable pub textIn : ℕ → ℕ → List ℕ → List ℕ → List ℕ
+textIn n m card out = cond (ltb (length out) (textRoom m)) out (textOf n m card ++ drop (length (textOf n m card)) out)
