@@ -2,20 +2,25 @@
 -- Assumes nothing.
 use mathlib.Core.Path.{_≡_, refl, ap, _∙_}
 use mathlib.Core.List.{List, [], _∷_, _++_}
-use Prim.Native.Nat.{ℕ, _+_, _*_, _≤_, _<_}
+use Prim.Native.Nat.{ℕ, zero, suc, _+_, _*_, _≤_, _<_}
 use native.Mathlib.Numerals.{add-one}
 use native.Mathlib.Omega.{arith}
-use borrow.Author.Tests.{lt-ltb, le-ltb}
+use borrow.Author.Tests.{lt-ltb, le-ltb, ltb-false}
+use lib.Dec.{ltb}
 use lib.IntN.{ℤ}
-use lib.ListN.{length, drop, length-append, length-drop}
+use lib.ListN.{length, getD, drop, length-append, length-drop, length-take}
 use lib.Seq.{sets-eq, length-take-le}
-use Rattle.ints.specs.Answer.{Answer, value}
+use Rattle.ints.proofs.Tests.{by-cond}
+use Rattle.ints.specs.Answer.{Answer, value, refused}
 use Rattle.position.specs.Board.{checkers, Accepted}
 use Rattle.position.specs.Phase.{phaseOf}
 use Rattle.position.proofs.Boards.{accepted-unrefused}
+use Rattle.moves.specs.Answers.{endsCount}
 use Rattle.key.specs.Key.{keyOf, keyAnswer}
 use Rattle.key.specs.declared.KeyAnswer.{KeyAnswer}
-use Rattle.card.specs.Read.{startKey, turnAt, boardAfter, readAnswer}
+use Rattle.card.specs.Read.{startKey, turnAt, larger, smaller, endNumber, boardAfter, readAnswer}
+use Rattle.card.proofs.Starts.{length-key}
+use Rattle.card.proofs.Refusals.{read-exactly}
 use Rattle.card_text.specs.declared.Turn.{Turn}
 use Rattle.card_text.specs.declared.Turns.{Turns}
 use Rattle.card_text.specs.Text.{hexByte, hex, decimal, space, newline, atWord, startLine, endWords, turnLine, resultLine, placeWords, refusedLine, lineOf, linesOf, textFrom, textRoom, textOf, textAnswer, textIn}
@@ -118,3 +123,53 @@ text-put-as card out m {answer} e h k w =
 pub text-unput : (card out : List ℕ) (m : ℕ) → length out < textRoom m → (0 ≡ textAnswer checkers m card (length out)) × (out ≡ textIn checkers m card out)
 unfolding textAnswer textIn
 text-unput card out m h = rw (lt-ltb (length out) (textRoom m) h) (refl, refl)
+
+-- ---- the room that a text takes
+
+lines-fit : (card : List ℕ) (k : ℕ) → length (linesOf card k) ≤ 42 * k
+unfolding linesOf lineOf
+lines-fit card zero = omega arith
+lines-fit card (suc k) =
+    let r = drop (turnAt k) card in
+    omega (
+      arith,
+      lines-fit card k,
+      length-append (linesOf card k) (lineOf card k),
+      short-line (suc k) (getD r 2 0) (endNumber r) (endsCount (boardAfter card k) (larger r) (smaller r)) (keyOf (boardAfter card (suc k)))
+          (length-key (boardAfter card (suc k))),
+    )
+
+start-fits : (card : List ℕ) → length (startLine (startKey card)) ≤ 27
+unfolding startLine
+start-fits card =
+    omega (
+      arith,
+      length-append (hex (startKey card)) (newline ∷ []),
+      length-hex (startKey card),
+      length-take 10 (drop 2 card),
+    )
+
+-- the text of any card has at most so many bytes
+pub text-fits : (m : ℕ) (card : List ℕ) → length (textOf checkers m card) ≤ textRoom m
+unfolding textOf textFrom
+text-fits m card = go (readAnswer checkers m card) refl
+  where
+    go : (answer : Answer) → readAnswer checkers m card ≡ answer → length (textFrom checkers answer card) ≤ textRoom m
+    go (refused number place) e = omega (arith, short-refused number place)
+    go (value turns) e =
+        let last = resultLine (phaseOf checkers (boardAfter card turns)) in
+        omega (
+          arith,
+          start-fits card,
+          lines-fit card turns,
+          short-result (phaseOf checkers (boardAfter card turns)),
+          length-append (startLine (startKey card)) (linesOf card turns ++ last),
+          length-append (linesOf card turns) last,
+          read-exactly checkers m card turns .0 e .few,
+        )
+
+pub answer-fits : (m : ℕ) (card : List ℕ) (room : ℕ) → textAnswer checkers m card room ≤ room
+unfolding textAnswer
+answer-fits m card room =
+    by-cond (ltb room (textRoom m)) 0 (length (textOf checkers m card)) (λ n. n ≤ room) (λ e. omega arith)
+    (λ e. omega (arith, text-fits m card, ltb-false room (textRoom m) e))

@@ -2,3 +2,5 @@
 pub mod Writing
 pub mod ToldTurns
 pub mod CardLines
+pub mod Unique
+pub mod Tried
