@@ -173,3 +173,8 @@ unfolding textAnswer
 answer-fits m card room =
     by-cond (ltb room (textRoom m)) 0 (length (textOf checkers m card)) (λ n. n ≤ room) (λ e. omega arith)
     (λ e. omega (arith, text-fits m card, ltb-false room (textRoom m) e))
+
+-- the answer with the bound that a caller asks of it
+pub text-answered : (card out : List ℕ) (m : ℕ) {r : ℕ} {new : List ℕ} → (r ≡ textAnswer checkers m card (length out)) × (new ≡ textIn checkers m card out)
+    → (r ≡ textAnswer checkers m card (length out)) × (new ≡ textIn checkers m card out) × (r ≤ length out)
+text-answered card out m p = (p .0, p .1, omega (arith, p .0, answer-fits m card (length out)))

@@ -38,7 +38,7 @@ pub struct Turns {
 // Puts the text of any card into the lent memory, and answers the number of its bytes; 0, and nothing is put, where the memory
 // has not the room for any card's text.
 pub fn text(card: &[u8], out: &mut [u8]) -> usize
-    ensures { λ r. ⌜ (r ≡ textAnswer checkers turnsMost (now (card .entry)) (length (now (out .entry)))) × (now (out .exit) ≡ textIn checkers turnsMost (now (card .entry)) (now (out .entry))) ⌝ }
+    ensures { λ r. ⌜ (r ≡ textAnswer checkers turnsMost (now (card .entry)) (length (now (out .entry)))) × (now (out .exit) ≡ textIn checkers turnsMost (now (card .entry)) (now (out .entry))) × (r ≤ length (now (out .entry))) ⌝ }
 {
     if out.len() < ROOM {
         return 0;

@@ -1,3 +1,6 @@
+-- `card_program::main` lends the bytes that were read, and those of the text.
+use mathlib.Core.Path.{sym}
+use lib.Seq.{length-take-le}
 use borrow.Author.Needs.{needs}
 use Rattle.card_program.proofs.main.Statement.{statement}
 use Rattle.card_program.proofs.main.Tie as tie
@@ -21,10 +24,12 @@ text-requires : tie.Need-text-requires
 text-requires c κs = search needs
 
 array-share-prefix-text : tie.Need-array-share-prefix-text
-array-share-prefix-text c = ?
+array-share-prefix-text c = search needs
 
 slice-aggregate-write-all : tie.Need-slice-aggregate-write-all
-slice-aggregate-write-all c = ?
+slice-aggregate-write-all c =
+    let t = c .before .before .text2 in
+    sym (length-take-le (t .result) (t .last .1 .0) (search needs))
 
 write-all-requires : tie.Need-write-all-requires
 write-all-requires c κs = search needs

@@ -5,7 +5,7 @@ use Rattle.card.specs.Game.{turnsMost}
 use Rattle.card.specs.Answers.{cardTold}
 use Rattle.card_text.specs.Text.{textFrom}
 use Rattle.card_text.proofs.ToldTurns.{few-turns}
-use Rattle.card_text.proofs.CardLines.{text-put-as, text-unput, short-refused}
+use Rattle.card_text.proofs.CardLines.{text-put-as, text-unput, text-answered, short-refused}
 use borrow.Author.Needs.{needs}
 use Rattle.card_text.proofs.text.Statement.{statement}
 use Rattle.card_text.proofs.text.Tie as tie
@@ -13,7 +13,7 @@ use Rattle.card_text.proofs.text.Tie as tie
 returns : tie.Need-returns
 returns c =
     let a = c .before .before .before .args in
-    text-unput (a .card .now) (a .out .now) turnsMost (c .if1 .taken)
+    text-answered (a .card .now) (a .out .now) turnsMost (text-unput (a .card .now) (a .out .now) turnsMost (c .if1 .taken))
 
 read-requires : tie.Need-read-requires
 read-requires c κs = search needs
@@ -46,7 +46,8 @@ returns-2 c =
     let r = c .before .before .before .before .before .before .before in
     let e = sym (r .read .ensures) ∙ ap cardTold (c .before .before .before .before .before .turns .given .1) in
     let p = c .before .before .put-card .ensures in
-    text-put-as (s .args .card .now) (s .args .out .now) turnsMost e (omega arith) (omega (arith, p .1, few-turns (s .args .card .now) _ e)) (p .0)
+    text-answered (s .args .card .now) (s .args .out .now) turnsMost
+    (text-put-as (s .args .card .now) (s .args .out .now) turnsMost e (omega arith) (omega (arith, p .1, few-turns (s .args .card .now) _ e)) (p .0))
 
 same-length-2 : tie.Need-same-length-2
 same-length-2 c = search needs
@@ -59,7 +60,8 @@ returns-3 c =
     let e = sym (r .read .ensures) ∙ ap cardTold (c .before .before .before .before .before .before .refusal .given .1) in
     let refusal = c .before .before .before .before .before .before .refusal .given .0 .0 in
     let w = c .before .before .put-refused .ensures in
-    text-put-as (s .args .card .now) (s .args .out .now) turnsMost e (omega arith) (omega (arith, w .next, short-refused (refusal .number) (refusal .at))) w
+    text-answered (s .args .card .now) (s .args .out .now) turnsMost
+    (text-put-as (s .args .card .now) (s .args .out .now) turnsMost e (omega arith) (omega (arith, w .next, short-refused (refusal .number) (refusal .at))) w)
 
 pub text-spec : {M : Type 1} → statement M
 text-spec =
