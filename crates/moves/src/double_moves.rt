@@ -17,6 +17,9 @@ pub fn double_ends(b: &[i8; 26], die: usize, out: &mut [u8], from: usize) -> usi
     requires { ⌜ Good (now b) × Small 15 (now b) × (0 < die) × (die ≤ 6) ⌝ }
     ensures { λ r. ⌜ Passed (most die (now (b .entry)) 4) (now (out .entry)) from 0 r (now (out .exit)) ⌝ }
 {
+    if b[25] < 1 {
+        return most_steps(b, die, 4, out, from);
+    }
     let entry = after_entering(*b, die, 4);
     let c = entry.board;
     if c[25] > 0 {
@@ -140,7 +143,8 @@ fn next(
             start,
         );
     }
-    let c = position::move_single_checker(*b, p, die);
+    let mut c = *b;
+    position::step_in_place(&mut c, p, die);
     level(&c, x, free, die, left, p, out, from, start)
 }
 

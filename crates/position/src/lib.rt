@@ -210,15 +210,24 @@ pub fn move_single_checker(b: [i8; 26], from: usize, die: usize) -> [i8; 26]
     ensures { λ r. ⌜ r ≡ stepped b from die ⌝ }
 {
     let mut r = b;
-    r[from] -= 1;
+    step_in_place(&mut r, from, die);
+    r
+}
+
+// Makes the step on the lent board: a caller that steps a copy of its own copies once, where a returned board would be copied again.
+pub fn step_in_place(b: &mut [i8; 26], from: usize, die: usize)
+    requires { ⌜ from ≤ 25 ⌝ }
+    requires { ⌜ Small 124 (now b) ⌝ }
+    ensures { λ _. ⌜ now (b .exit) ≡ stepped (now (b .entry)) from die ⌝ }
+{
+    b[from] -= 1;
     if from > die {
         let to = from - die;
-        if r[to] == -1 {
-            r[to] = 1;
-            r[O_BAR] -= 1;
+        if b[to] == -1 {
+            b[to] = 1;
+            b[O_BAR] -= 1;
         } else {
-            r[to] += 1;
+            b[to] += 1;
         }
     }
-    r
 }

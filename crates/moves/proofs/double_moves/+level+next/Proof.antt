@@ -32,7 +32,7 @@ use Rattle.moves.proofs.points.after.Reads as after-reads
 use Rattle.moves.proofs.points.origins.Reads as origins-reads
 use Rattle.moves.proofs.window.up.Reads as up-reads
 use Rattle.moves.proofs.window.up_after.Reads as up-after-reads
-use Rattle.position.proofs.move_single_checker.Reads as move-single-checker-reads
+use Rattle.position.proofs.step_in_place.Reads as step-in-place-reads
 use Rattle.moves.proofs.double_moves.+level+next.{statement}
 use Rattle.moves.proofs.double_moves.+level+next.Tie.{close}
 
@@ -88,8 +88,8 @@ next-calls t = (
   origins-reads.Learnt,
   up-after-reads.Asked,
   up-after-reads.Learnt,
-  move-single-checker-reads.Asked,
-  move-single-checker-reads.Learnt,
+  step-in-place-reads.Asked,
+  step-in-place-reads.Learnt,
   level-below t,
   level.Post,
 )
@@ -243,18 +243,18 @@ module _ (t : ℕ) where
       let o = u .before .before in
       rw (← level-last (seen-last o) (o .before .before .before .args .left) (o .before .if1 .taken)) (u .up-after .ensures)
 
-  next-move-single-checker-requires : next-lts.Need-move-single-checker-requires (next-calls t) (next-at t) next.Post
-  next-move-single-checker-requires c κs =
-      let s = c .before .before .before in (omega arith, small-more (98 - 2 * s .args .left) 124 (s .args .b .now) (omega arith) (s .pre .1 .0 .2))
+  next-step-in-place-requires : next-lts.Need-step-in-place-requires (next-calls t) (next-at t) next.Post
+  next-step-in-place-requires c κs =
+      let s = c .before .before .before .before in (omega arith, small-more (98 - 2 * s .args .left) 124 (s .args .b .now) (omega arith) (s .pre .1 .0 .2))
 
   next-level-requires : next-lts.Need-level-requires (next-calls t) (next-at t) next.Post
   next-level-requires c κs =
-      let s = c .before .before .before .before .before .before in
+      let s = c .before .before .before .before .before .before .before in
       let a = s .args in
       let p = s .pre .1 in
       let q = p .1 .0 in (
         omega (arith, s .pre .0),
-        rw (c .before .before .move-single-checker .ensures) (
+        rw (c .before .before .step-in-place .ensures) (
           (
             p .0 .0,
             p .0 .1,
@@ -271,7 +271,7 @@ module _ (t : ℕ) where
   next-returns-2 : next-lts.Need-returns-2 (next-calls t) (next-at t) next.Post
   next-returns-2 c =
       let l = c .before .before in
-      rw (l .before .before .before .move-single-checker .ensures) at (l .level .ensures)
+      rw (l .before .before .before .step-in-place .ensures) at (l .level .ensures)
 
 pub +level+next-spec : {M : Type 1} → statement M
 +level+next-spec =
@@ -310,7 +310,7 @@ pub +level+next-spec : {M : Type 1} → statement M
     (next-up-after-requires t)
     (next-same-length t)
     (next-returns t)
-    (next-move-single-checker-requires t)
+    (next-step-in-place-requires t)
     (next-level-requires t)
     (next-same-length-2 t)
     (next-returns-2 t))
