@@ -12,7 +12,8 @@ ghost use Rattle.moves.specs.Entering.{Entering};
 use crate::points;
 use crate::window;
 
-// Passes the ends of a double, from number 0 on: enter up to four, then the most steps that can be made.
+// Passes the ends of a double, from number 0 on: enter up to four, then the most steps that can be made. With x's bar empty no copy of
+// the board is made to enter on.
 pub fn double_ends(b: &[i8; 26], die: usize, out: &mut [u8], from: usize) -> usize
     requires { ⌜ Good (now b) × Small 15 (now b) × (0 < die) × (die ≤ 6) ⌝ }
     ensures { λ r. ⌜ Passed (most die (now (b .entry)) 4) (now (out .entry)) from 0 r (now (out .exit)) ⌝ }

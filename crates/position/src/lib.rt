@@ -136,20 +136,22 @@ pub fn check(b: [i8; 26]) -> Checked
     Checked { refused: 0, all }
 }
 
-// Both sides' checkers on the entries below n.
+// Both sides' checkers on the entries below n. One sum holds both, x's below 65536 and o's from there on: of two sums the compiler makes
+// vector code for one only.
 pub fn checkers_below(b: &[i8; 26], n: usize) -> Checkers
     requires { ⌜ n ≤ 26 ⌝ }
     ensures { λ r. ⌜ (r .x ≡ sumTo (xs (now (b .entry))) n) × (r .o ≡ sumTo (os (now (b .entry))) n) ⌝ }
 {
-    let mut x: u32 = 0;
-    let mut o: u32 = 0;
+    let mut both: u32 = 0;
     let mut i = 0;
     while i < n {
-        x += ints::pos_part(b[i]);
-        o += ints::neg_part(b[i]);
+        both += ints::pos_part(b[i]) + 65536 * ints::neg_part(b[i]);
         i += 1;
     }
-    Checkers { x, o }
+    Checkers {
+        x: both % 65536,
+        o: both / 65536,
+    }
 }
 
 // Entry 25 - i of the new board is minus entry i of the old.

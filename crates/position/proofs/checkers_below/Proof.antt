@@ -1,6 +1,7 @@
--- `position::checkers_below` meets its contract. The loop's invariant: x and o are the sums of the entries passed, each of which adds at most 128.
-use mathlib.Core.Path.{_≡_, refl, ap, _∙_}
-use Prim.Native.Nat.{_-_, _*_, _≤_}
+-- `position::checkers_below` meets its contract. The loop's invariant: the one sum is x's checkers on the entries passed and 65536 times
+-- o's, each of which adds at most 128.
+use mathlib.Core.Path.{_≡_, ap}
+use Prim.Native.Nat.{_+_, _-_, _*_, _≤_}
 use native.Mathlib.Omega.{arith}
 use borrow.Author.Needs.{needs}
 use lib.IntN.{ℤ}
@@ -14,21 +15,27 @@ use Rattle.position.proofs.checkers_below.Statement.{statement}
 use Rattle.position.proofs.checkers_below.Tie as tie
 
 abbrev Inv-loop : tie.InvT-loop
-Inv-loop b n x₀ o₀ i₀ x o i =
-    (i ≤ n) × (x ≤ 128 * i) × (x ≡ sumTo (xs b) i) × (o ≤ 128 * i) × (o ≡ sumTo (os b) i)
+Inv-loop b n both₀ i₀ both i =
+    (i ≤ n) × (sumTo (xs b) i ≤ 128 * i) × (sumTo (os b) i ≤ 128 * i) × (both ≡ sumTo (xs b) i + 65536 * sumTo (os b) i)
 
 abbrev μ-loop : tie.MeasureT-loop
-μ-loop b n x₀ o₀ i₀ x o i = n - i
+μ-loop b n both₀ i₀ both i = n - i
 
 loop-holds : tie.Need-loop-holds Inv-loop μ-loop
 unfolding sumTo
-loop-holds c = (omega arith, omega arith, refl, omega arith, refl)
+loop-holds c = (omega arith, omega arith, omega arith, omega arith)
 
 element-copy-out-pos-part : tie.Need-element-copy-out-pos-part Inv-loop μ-loop
 element-copy-out-pos-part c = omega arith
 
 pos-part-requires : tie.Need-pos-part-requires Inv-loop μ-loop
 pos-part-requires c κs = search needs
+
+element-copy-out-neg-part : tie.Need-element-copy-out-neg-part Inv-loop μ-loop
+element-copy-out-neg-part c = omega arith
+
+neg-part-requires : tie.Need-neg-part-requires Inv-loop μ-loop
+neg-part-requires c κs = search needs
 
 -- what the calls add: the entry's parts, each at most 128
 module _ (c : tie.After-pos-part Inv-loop μ-loop) where
@@ -51,17 +58,14 @@ module _ (c : tie.After-neg-part Inv-loop μ-loop) where
   small-o : c .neg-part .result ≤ 128
   small-o = omega (arith, more-o, negPart-le read-o 128 (c .before .neg-part-arg .given))
 
-add-x : tie.Need-add-x Inv-loop μ-loop
-add-x c = omega (arith, small-x c)
+mul-both : tie.Need-mul-both Inv-loop μ-loop
+mul-both c = omega (arith, small-o c)
 
-element-copy-out-neg-part : tie.Need-element-copy-out-neg-part Inv-loop μ-loop
-element-copy-out-neg-part c = omega arith
+add-both : tie.Need-add-both Inv-loop μ-loop
+add-both c = omega (arith, small-x (c .before .before), small-o c)
 
-neg-part-requires : tie.Need-neg-part-requires Inv-loop μ-loop
-neg-part-requires c κs = search needs
-
-add-o : tie.Need-add-o Inv-loop μ-loop
-add-o c = omega (arith, small-o c)
+add-both-2 : tie.Need-add-both-2 Inv-loop μ-loop
+add-both-2 c = omega (arith, small-x (c .before .before), small-o c)
 
 add-i : tie.Need-add-i Inv-loop μ-loop
 add-i c = omega arith
@@ -71,20 +75,25 @@ loop-less c = omega arith
 
 loop-again : tie.Need-loop-again Inv-loop μ-loop
 loop-again c =
-    let x = c .before .before in
-    let b = x .before .before .before .before .args .b .now in
-    let i = x .before .before .before .loop .i in (
+    let p = c .before .before in
+    let b = p .before .before .before .before .args .b .now in
+    let i = p .before .before .before .loop .i in
+    let mx = sum-more (xs b) i in
+    let mo = sum-more (os b) i in (
       omega arith,
-      omega (arith, small-x x),
-      omega (arith, more-x x, sum-more (xs b) i),
-      omega (arith, small-o c),
-      omega (arith, more-o c, sum-more (os b) i),
+      omega (arith, more-x p, small-x p),
+      omega (arith, more-o c, small-o c),
+      omega (arith, more-x p, more-o c),
     )
 
 returns : tie.Need-returns Inv-loop μ-loop
 returns c =
     let b = c .before .before .args .b .now in
-    (c .before .loop .inv .2 ∙ ap (sumTo (xs b)) (omega arith), c .before .loop .inv .4 ∙ ap (sumTo (os b)) (omega arith))
+    let l = c .before .loop in
+    let e : l .i ≡ c .before .before .args .n = omega arith in
+    let ex = ap (sumTo (xs b)) e in
+    let eo = ap (sumTo (os b)) e in
+    (omega arith, omega arith)
 
 pub checkers-below-spec : {M : Type 1} → statement M
 checkers-below-spec =
@@ -95,10 +104,11 @@ checkers-below-spec =
     loop-holds
     element-copy-out-pos-part
     pos-part-requires
-    add-x
     element-copy-out-neg-part
     neg-part-requires
-    add-o
+    mul-both
+    add-both
+    add-both-2
     add-i
     loop-less
     loop-again
