@@ -1,12 +1,21 @@
 //! What an entry that takes a board or a key answers: its packed number, and what it did to lent
 //! memory.
 
+use crate::guarded::Item;
 use munchalep::{Board, Key};
 use std::fmt;
 use std::hint::black_box;
 
 /// What stands in lent memory before a call. No accepted board has such an entry.
 pub const PATTERN: i8 = 0x55;
+
+impl Item for i8 {
+    const PATTERN: i8 = PATTERN;
+}
+
+impl Item for u8 {
+    const PATTERN: u8 = PATTERN as u8;
+}
 
 /// What a call may be lent to write to: a board or a key.
 pub trait Lendable: Copy + PartialEq {

@@ -17,11 +17,28 @@ pub enum Entry {
     End,
     Key,
     BoardOfKey,
+    ContactInputs,
+    RaceInputs,
+    ContactInput,
+    RaceInput,
 }
 
 /// Their names, in the enum's order.
-const ENTRIES: [&str; 9] =
-    ["check", "switch", "step", "result", "list", "count", "end", "key", "board_of_key"];
+const ENTRIES: [&str; 13] = [
+    "check",
+    "switch",
+    "step",
+    "result",
+    "list",
+    "count",
+    "end",
+    "key",
+    "board_of_key",
+    "contact_inputs",
+    "race_inputs",
+    "contact_input",
+    "race_input",
+];
 
 const REFUSALS: usize = 37;
 const RESULTS: usize = 8;

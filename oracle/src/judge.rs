@@ -1,9 +1,11 @@
 //! wildbg's answers, inside the domain where it decides. An answer is `None` outside that domain,
 //! where wildbg is not called: it would panic, or answer for something that is not a board.
 
+use crate::plain::Net;
 use base64::Engine;
 use base64::engine::general_purpose::STANDARD_NO_PAD;
 use engine::dice::Dice;
+use engine::inputs::{ContactInputsGen, InputsGen, RaceInputsGen};
 use engine::position::{GamePhase, GameResult, OngoingPhase, Position};
 use munchalep::{Board, Key};
 
@@ -68,6 +70,16 @@ impl Judge {
         self.answer(|position| Some(Ok(key_of_id(&position.position_id()))))
     }
 
+    /// The inputs of a net. wildbg decides on every board that it accepts.
+    pub fn inputs(&self, net: Net) -> Option<Result<Vec<f32>, u8>> {
+        self.answer(|position| {
+            Some(Ok(match net {
+                Net::Contact => filled(&ContactInputsGen {}, position),
+                Net::Race => filled(&RaceInputsGen {}, position),
+            }))
+        })
+    }
+
     /// The refusal of a board that wildbg refuses, else what is said of its position.
     fn answer<T>(
         &self,
@@ -79,6 +91,13 @@ impl Judge {
             Judge::Accepts(position) => of_position(position),
         }
     }
+}
+
+/// A slice that wildbg fills. An input that it left out would stay as it is here, which none is.
+fn filled<G: InputsGen>(generator: &G, position: &Position) -> Vec<f32> {
+    let mut inputs = vec![f32::NAN; G::NUM_INPUTS];
+    generator.fill_inputs(position, &mut inputs);
+    inputs
 }
 
 /// The board of a key. wildbg decides on those of accepted boards, and has base64 text for a key.

@@ -1,9 +1,9 @@
 //! Holds Munchalep's C interface to wildbg's Rust and to document 01's words. `oracle/run` builds
 //! and starts it, and says how it is used.
 //!
-//! A capability has a module of its own (`position`, `moves`, `key`), with its plain form in `plain`
-//! and wildbg's in `judge`; `counts` names its entries, `search` compares it and `store` stores its
-//! answers.
+//! A capability has a module of its own (`position`, `moves`, `key`, `inputs`), with its plain form
+//! in `plain` and wildbg's in `judge`; `counts` names its entries, `search` compares it and `store`
+//! stores its answers.
 
 #![forbid(unsafe_code)]
 
@@ -12,6 +12,8 @@ mod boards;
 mod counts;
 mod dice;
 mod difference;
+mod guarded;
+mod inputs;
 mod judge;
 mod key;
 mod moves;

@@ -2,9 +2,11 @@
 //! inside wildbg's domain, and the only one outside it. A refusal is an `Err` with its number.
 
 mod ends;
+mod inputs;
 pub mod key;
 
 pub use ends::{ends, play};
+pub use inputs::{Net, inputs};
 pub use key::{board_of_key, key};
 
 use crate::boards::board;

@@ -4,7 +4,7 @@ use crate::boards::{Boards, kinds};
 use crate::counts::{Counts, grouped, tables};
 use crate::difference::Difference;
 use crate::options::Options;
-use crate::{key, moves, position};
+use crate::{inputs, key, moves, position};
 use munchalep::Board;
 use std::sync::atomic::{AtomicBool, AtomicU64, AtomicUsize, Ordering::Relaxed};
 use std::sync::{Mutex, OnceLock};
@@ -17,11 +17,16 @@ pub enum Group {
     Position,
     Moves,
     Key,
+    Inputs,
 }
 
 /// All groups, by the names that `--only` takes.
-pub const GROUPS: [(&str, Group); 3] =
-    [("position", Group::Position), ("moves", Group::Moves), ("key", Group::Key)];
+pub const GROUPS: [(&str, Group); 4] = [
+    ("position", Group::Position),
+    ("moves", Group::Moves),
+    ("key", Group::Key),
+    ("inputs", Group::Inputs),
+];
 
 /// Compares the entries of some groups, with memory of its own.
 struct Comparison<'a> {
@@ -35,6 +40,7 @@ impl Comparison<'_> {
             Group::Position => position::compare(board, counts),
             Group::Moves => self.lists.compare(board, counts),
             Group::Key => key::compare(board, counts),
+            Group::Inputs => inputs::compare(board, counts),
         })
     }
 }
@@ -45,6 +51,7 @@ fn compare_document(groups: &[Group]) -> Result<(), Difference> {
         Group::Position => position::document::compare(),
         Group::Moves => moves::document::compare(),
         Group::Key => key::document::compare(),
+        Group::Inputs => inputs::document::compare(),
     })
 }
 

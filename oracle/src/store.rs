@@ -2,20 +2,21 @@
 
 use crate::difference::Difference;
 use crate::options::Options;
-use crate::{dice, key, moves, position};
+use crate::{dice, inputs, key, moves, position};
 use std::fs;
 
 /// Makes the data of a seed.
 pub type Maker = fn(u64) -> Result<Vec<u8>, Difference>;
 
 /// The options that store data, each with its maker.
-pub const STORES: [(&str, Maker); 6] = [
+pub const STORES: [(&str, Maker); 7] = [
     ("--store", position::stored::records),
     ("--store-dice", |_| dice::stored()),
     ("--store-moves", moves::stored::records),
     ("--store-lists", moves::stored::lists),
     ("--store-key", key::stored::records),
     ("--store-gnubg", key::gnubg::records),
+    ("--store-inputs", inputs::stored::records),
 ];
 
 /// Writes the files that are asked for. Answers what it wrote, or what failed.

@@ -1,15 +1,19 @@
-//! How long the library and wildbg take for the ends of a roll. `oracle/bench` builds and starts
-//! it, and says how it is used.
+//! How long the library and wildbg take for the ends of a roll and for the inputs of the nets.
+//! `oracle/bench` builds and starts it, and says how it is used.
 
 #![forbid(unsafe_code)]
 
 mod corpus;
+mod inputs;
 #[path = "../../src/rng.rs"]
 #[allow(dead_code, reason = "the comparison uses all of it")]
 mod rng;
 mod routines;
 
 use corpus::Turn;
+use engine::position::Position;
+use inputs::NETS;
+use munchalep::Board;
 use routines::Routines;
 use std::time::{Duration, Instant};
 
@@ -22,45 +26,67 @@ type Selection = (&'static str, Vec<Turn>);
 
 fn main() {
     let boards = corpus::boards(SEED, BOARDS);
-    let all = corpus::turns(&boards);
+    println!("{BOARDS} boards of random play, seed {SEED}, {RUNS} runs, the shortest of each\n");
+    print_ends(&boards);
+    println!();
+    print_inputs(&boards);
+}
+
+/// The table of the ends of a roll.
+fn print_ends(boards: &[Position]) {
+    let all = corpus::turns(boards);
     let (doubles, mixed) = all.iter().copied().partition(Turn::is_double);
     let selections: [Selection; 3] =
         [("all 21 rolls", all), ("doubles", doubles), ("mixed rolls", mixed)];
 
-    println!("{BOARDS} boards of random play, seed {SEED}, {RUNS} runs, the shortest of each\n");
     println!("| rolls | calls | ends a call | most ends | {} |", routines::NAMES.join(" | "));
     println!("|---|---|---|---|{}", "---|".repeat(routines::NAMES.len()));
     for (name, turns) in selections {
-        print_row(name, &turns);
+        let mut routines = Routines::new();
+        let (ends, most) = (routines.ends(&turns), routines.most_ends(&turns));
+        let shortest =
+            shortest_runs(routines::NAMES, ends, |routine| routines.run(routine, &turns));
+        let (calls, ends_a_call) = (turns.len(), ends as f64 / turns.len() as f64);
+        let times = times(shortest, calls);
+        println!("| {name} | {calls} | {ends_a_call:.1} | {most} | {times} |");
     }
 }
 
-/// Measures a selection and prints its row: the time of each routine, and how many times as fast
-/// as wildbg it is.
-fn print_row(name: &str, turns: &[Turn]) {
-    let mut routines = Routines::new();
-    let (ends, most) = (routines.ends(turns), routines.most_ends(turns));
-    let shortest = shortest_runs(&mut routines, turns, ends);
-    let nanos = shortest.map(|time| time.as_nanos() as f64 / turns.len() as f64);
-    let cells = nanos.map(|time| format!("{time:.0} ns ({:.2})", nanos[0] / time));
-    let ends_a_call = ends as f64 / turns.len() as f64;
-    println!("| {name} | {} | {ends_a_call:.1} | {most} | {} |", turns.len(), cells.join(" | "));
+/// The table of the inputs of the nets.
+fn print_inputs(boards: &[Position]) {
+    let boards: Vec<(Position, Board)> =
+        boards.iter().map(|&position| (position, position.into())).collect();
+    println!("| net | calls | inputs | {} |", inputs::NAMES.join(" | "));
+    println!("|---|---|---|{}", "---|".repeat(inputs::NAMES.len()));
+    for net in NETS {
+        assert!(net.agree(&boards), "{}: other inputs", net.name);
+        let calls = boards.len();
+        let shortest = shortest_runs(inputs::NAMES, calls, |routine| net.run(routine, &boards));
+        println!("| {} | {calls} | {} | {} |", net.name, net.inputs, times(shortest, calls));
+    }
 }
 
-/// The shortest time of each routine. The routines take turns, so that what else the machine does
-/// falls on all of them.
-fn shortest_runs(
-    routines: &mut Routines,
-    turns: &[Turn],
-    ends: usize,
-) -> [Duration; routines::NAMES.len()] {
-    let mut shortest = [Duration::MAX; routines::NAMES.len()];
+/// The cells of some routines, wildbg's first: the time of each, and how many times as fast as
+/// wildbg it is.
+fn times<const N: usize>(shortest: [Duration; N], calls: usize) -> String {
+    let nanos = shortest.map(|time| time.as_nanos() as f64 / calls as f64);
+    nanos.map(|time| format!("{time:.0} ns ({:.2})", nanos[0] / time)).join(" | ")
+}
+
+/// The shortest time of each routine, which all have to find the same. The routines take turns, so
+/// that what else the machine does falls on all of them.
+fn shortest_runs<const N: usize>(
+    names: [&str; N],
+    finds: usize,
+    mut run: impl FnMut(usize) -> usize,
+) -> [Duration; N] {
+    let mut shortest = [Duration::MAX; N];
     for _ in 0..RUNS {
         for (routine, shortest) in shortest.iter_mut().enumerate() {
             let start = Instant::now();
-            let found = routines.run(routine, turns);
+            let found = run(routine);
             *shortest = start.elapsed().min(*shortest);
-            assert_eq!(found, ends, "{} finds another number of ends", routines::NAMES[routine]);
+            assert_eq!(found, finds, "{} finds another number", names[routine]);
         }
     }
     shortest

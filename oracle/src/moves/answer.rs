@@ -2,14 +2,11 @@
 //! memory, however much of it there is.
 
 use super::{Call, MovesCase};
-use crate::answer::{BoardText, PATTERN, unpacked};
+use crate::answer::{BoardText, unpacked};
+use crate::guarded::{Guarded, Item};
 use munchalep::{Board, END_BYTES, raw};
 use std::fmt;
 use std::hint::black_box;
-
-/// Bytes before and after lent memory that no call may touch. The odd number puts lent memory where
-/// nothing is aligned.
-const GUARD: usize = 67;
 
 /// Boards of an answer that are shown.
 const SHOWN: usize = 8;
@@ -60,18 +57,19 @@ impl Answer {
     pub fn of_call(case: &MovesCase) -> Answer {
         let length = if let Call::List { length } = case.call { length } else { 0 };
         let mut given = Guarded::with(&case.board);
-        let mut list = Guarded::with(&vec![PATTERN as u8; length]);
-        let mut out = Guarded::with(&[PATTERN; 26]);
+        let mut list = Guarded::blank(length);
+        let mut out = Guarded::blank(26);
         let packed = call(case, given.lent(), list.lent(), out.lent());
         // The compiler may take for granted that only what was lent changed; it is to look.
         black_box((&mut given, &mut list, &mut out));
         Answer {
             packed,
-            written: [list.written(), out.written()].concat(),
+            written: [written(list.lent(), |byte| byte), written(out.lent(), |entry| entry as u8)]
+                .concat(),
             strayed: given.lent() != case.board
-                || given.guards() != Guarded::with(&case.board).guards()
-                || list.guards() != Guarded::with(&[0u8]).guards()
-                || out.guards() != Guarded::with(&[0i8]).guards(),
+                || given.strayed()
+                || list.strayed()
+                || out.strayed(),
         }
     }
 }
@@ -88,51 +86,10 @@ fn call(case: &MovesCase, given: &[i8], list: &mut [u8], out: &mut [i8]) -> u64 
     }
 }
 
-/// Memory for a call, with guards before and after it.
-struct Guarded<T>(Vec<T>);
-
-/// A byte, signed or not.
-trait Byte: Copy + PartialEq {
-    /// What stands in lent memory before a call, and in its guards.
-    const PATTERN: Self;
-    fn unsigned(self) -> u8;
-}
-
-impl Byte for i8 {
-    const PATTERN: i8 = PATTERN;
-    fn unsigned(self) -> u8 {
-        self as u8
-    }
-}
-
-impl Byte for u8 {
-    const PATTERN: u8 = PATTERN as u8;
-    fn unsigned(self) -> u8 {
-        self
-    }
-}
-
-impl<T: Byte> Guarded<T> {
-    fn with(lent: &[T]) -> Guarded<T> {
-        let guard = [T::PATTERN; GUARD];
-        Guarded([&guard, lent, &guard].concat())
-    }
-
-    fn lent(&mut self) -> &mut [T] {
-        let end = self.0.len() - GUARD;
-        &mut self.0[GUARD..end]
-    }
-
-    fn guards(&self) -> (&[T], &[T]) {
-        (&self.0[..GUARD], &self.0[self.0.len() - GUARD..])
-    }
-
-    /// The bytes up to the last that changed, where all were the pattern.
-    fn written(&mut self) -> Vec<u8> {
-        let lent = self.lent();
-        let last = lent.iter().rposition(|&byte| byte != T::PATTERN);
-        lent[..last.map_or(0, |last| last + 1)].iter().map(|byte| byte.unsigned()).collect()
-    }
+/// The bytes up to the last that changed, where all were the pattern.
+fn written<T: Item>(lent: &[T], byte: fn(T) -> u8) -> Vec<u8> {
+    let last = lent.iter().rposition(|&item| item != T::PATTERN);
+    lent[..last.map_or(0, |last| last + 1)].iter().map(|&item| byte(item)).collect()
 }
 
 impl fmt::Display for Answer {
