@@ -146,6 +146,37 @@ static void keys(void)
     print_answer("board of the key ending in B0", munchalep_board_of_key(key, out), out);
 }
 
+/* Prints the four values of a point, the first of which has the place. */
+static void print_four(const char *point, const float *inputs, size_t place)
+{
+    const float *four = inputs + place;
+
+    printf("    %s: %g %g %g %g\n", point, four[0], four[1], four[2], four[3]);
+}
+
+static void inputs(void)
+{
+    float contact[MUNCHALEP_CONTACT_INPUTS] = {0}, race[MUNCHALEP_RACE_INPUTS] = {0}, one = 0;
+
+    print_refusal("start, contact inputs",
+                  munchalep_contact_inputs(start, contact, MUNCHALEP_CONTACT_INPUTS));
+    /* Two off counts, x's bar, and 24 points of x stand before o's bar and points. */
+    print_four("x on 6", contact, 2 + 4 * 6);
+    print_four("o on 1", contact, 2 + 4 * 26);
+    print_refusal("start, race inputs", munchalep_race_inputs(start, race, MUNCHALEP_RACE_INPUTS));
+    print_four("x on 6", race, 2 + 4 * 5);
+
+    print_refusal("start, race input 25", munchalep_race_input(start, 25, &one));
+    printf("    out: %g\n", one);
+    /* Refused, so `out` and the floats are what they were. */
+    print_refusal("start, race input 186",
+                  munchalep_race_input(start, MUNCHALEP_RACE_INPUTS, &one));
+    printf("    out: %g\n", one);
+    print_refusal("start, race inputs in 202 floats",
+                  munchalep_race_inputs(start, contact, MUNCHALEP_CONTACT_INPUTS));
+    print_four("x on 6", contact, 2 + 4 * 6);
+}
+
 int main(void)
 {
     check();
@@ -154,5 +185,6 @@ int main(void)
     result();
     ends();
     keys();
+    inputs();
     return 0;
 }

@@ -6,8 +6,9 @@ use engine::position::Position;
 use munchalep::{Board, CONTACT_INPUTS, RACE_INPUTS, raw};
 use std::hint::black_box;
 
-/// The routines by name, wildbg's first.
-pub const NAMES: [&str; 2] = ["wildbg", "munchalep"];
+/// The routines by name, wildbg's first: of a `Position` that it has already, and of 26 entries,
+/// which it has to judge as the library does.
+pub const NAMES: [&str; 3] = ["wildbg, of a position", "wildbg, of 26 entries", "munchalep"];
 
 /// A net with both ways to fill a slice with its inputs.
 pub struct Net {
@@ -39,6 +40,7 @@ impl Net {
         for (position, board) in boards {
             match routine {
                 0 => (self.wildbg)(black_box(position), &mut inputs),
+                1 => (self.wildbg)(&judged(black_box(board)), &mut inputs),
                 _ => assert_eq!((self.munchalep)(black_box(board), &mut inputs), 0),
             }
             black_box(&inputs);
@@ -54,4 +56,9 @@ impl Net {
             (self.munchalep)(board, &mut other) == 0 && one == other
         })
     }
+}
+
+/// The position of a board that wildbg accepts.
+fn judged(board: &Board) -> Position {
+    Position::try_from(*board).expect("a board of a game")
 }

@@ -1,0 +1,181 @@
+// Compares what the C interface answers of the nets' inputs with the stored answers of the Rust, and writes how many differ.
+//
+// The file inputs.bin has one record of 232 bytes an answer: the net (0 contact, 1 race), how many floats are lent, 26 of the board,
+// the refusal's number, and 203 of the lent floats afterwards, each as the whole number that it equals: 85 where it stays as it was,
+// and after the last. Each input is then asked by its place, and has to be the float that stands there.
+ghost use Prim.Native.Nat.{_≤_, _<_};
+use libc::STDERR_FILENO;
+use libc::STDOUT_FILENO;
+
+const RECORD: usize = 232;
+
+// Floats that a record has room for: one more than the contact net has.
+const FLOATS: usize = 203;
+
+// Where they begin in a record.
+const FIRST: usize = 29;
+
+// More records than a file of this kind has: the program ends whatever it reads.
+const MOST: u64 = 1000000;
+
+// How many records were replayed, how many of them differ, and whether the file ended where a record does.
+struct Tally {
+    replayed: u64,
+    differ: u64,
+    whole: bool,
+}
+
+fn main() {
+    let path = b"inputs.bin";
+    let file = os::open_read(path);
+    if file < 0 {
+        os::fail(path);
+        return;
+    }
+    let tally = replay(file);
+    libc::close(file);
+    if !tally.whole {
+        io::write_all(
+            STDERR_FILENO,
+            b"inputs.bin: its length must be a multiple of 232, and at most 232 million\n",
+        );
+        return;
+    }
+    io::write_all(STDOUT_FILENO, b"inputs: ");
+    io::print_decimal(STDOUT_FILENO, tally.replayed);
+    io::write_all(STDOUT_FILENO, b" answers replayed, ");
+    io::print_decimal(STDOUT_FILENO, tally.differ);
+    io::write_all(STDOUT_FILENO, b" differ\n");
+}
+
+// Replays the records of a file, one after another.
+fn replay(file: i32) -> Tally {
+    let mut differ: u64 = 0;
+    for replayed in 0..MOST {
+        let mut record = [0u8; RECORD];
+        let got = io::read_full(file, &mut record);
+        if got != RECORD {
+            return Tally {
+                replayed,
+                differ,
+                whole: got == 0,
+            };
+        }
+        differ += differs(&record);
+    }
+    Tally {
+        replayed: MOST,
+        differ,
+        whole: false,
+    }
+}
+
+// 1 where an answer, or a lent float, is not the stored one, else 0.
+fn differs(record: &[u8; RECORD]) -> u64
+    ensures { λ r. ⌜ r ≤ 1 ⌝ }
+{
+    let length = length(record);
+    if length > FLOATS {
+        return 1;
+    }
+    let board = board(record);
+    let mut floats = [85.0f32; FLOATS];
+    if fill(record[0], &board, &mut floats[..length]) != refusal(record) {
+        return 1;
+    }
+    if !holds(&floats, record) {
+        return 1;
+    }
+    // A slice of a wrong length says nothing of the inputs.
+    if refusal(record) == 13 {
+        return 0;
+    }
+    if !places_hold(&board, record) {
+        return 1;
+    }
+    0
+}
+
+// Lends the floats to the net's entry.
+fn fill(net: u8, board: &[i8; 26], floats: &mut [f32]) -> u64 {
+    if net == 0 {
+        return munchalep::munchalep_contact_inputs(board, floats);
+    }
+    munchalep::munchalep_race_inputs(board, floats)
+}
+
+// Asks the net's entry for the input that has a place.
+fn ask(net: u8, board: &[i8; 26], place: usize, out: &mut f32) -> u64 {
+    if net == 0 {
+        return munchalep::munchalep_contact_input(board, place, out);
+    }
+    munchalep::munchalep_race_input(board, place, out)
+}
+
+// Whether the floats are the stored ones. They are compared as numbers, which takes 0 and minus 0 for the same: a float's bits can
+// be read only where it is proved to be no NaN.
+fn holds(floats: &[f32; FLOATS], record: &[u8; RECORD]) -> bool {
+    for i in 0..FLOATS {
+        if floats[i] != number(record[FIRST + i]) {
+            return false;
+        }
+    }
+    true
+}
+
+// Whether each input by its place is the stored one, and none is given after the last.
+fn places_hold(board: &[i8; 26], record: &[u8; RECORD]) -> bool {
+    for place in 0..FLOATS {
+        let mut out = 85.0f32;
+        if ask(record[0], board, place, &mut out) != refusal_at(record, place) {
+            return false;
+        }
+        if out != number(record[FIRST + place]) {
+            return false;
+        }
+    }
+    true
+}
+
+// The refusal of an input by its place: that of the record, or 14 after the last.
+fn refusal_at(record: &[u8; RECORD], place: usize) -> u64 {
+    let refusal = refusal(record);
+    if refusal != 0 {
+        return refusal;
+    }
+    if place < length(record) {
+        return 0;
+    }
+    14
+}
+
+// The record's board, two's complement.
+fn board(record: &[u8; RECORD]) -> [i8; 26] {
+    let mut board = [0i8; 26];
+    for i in 0..26 {
+        board[i] = ints::entry_of(record[2 + i]);
+    }
+    board
+}
+
+// How many floats the record lends.
+fn length(record: &[u8; RECORD]) -> usize {
+    wide(record[1])
+}
+
+// The record's refusal.
+fn refusal(record: &[u8; RECORD]) -> u64 {
+    wide(record[28]) as u64
+}
+
+// A byte as a wider number.
+fn wide(byte: u8) -> usize
+    ensures { λ r. ⌜ r < 256 ⌝ }
+{
+    byte as usize
+}
+
+// A byte as a float.
+fn number(byte: u8) -> f32 {
+    byte as f32
+}
