@@ -19,7 +19,7 @@ impl<T: Item> Guarded<T> {
         Guarded([&guard, lent, &guard].concat())
     }
 
-    /// Lent memory of which nothing is said yet.
+    /// Lent memory that is the pattern all through.
     pub fn blank(length: usize) -> Guarded<T> {
         Guarded(vec![T::PATTERN; length + 2 * GUARD])
     }

@@ -18,8 +18,8 @@ use munchalep::Board;
 /// One board in this many has every place asked, and slices of all of `LENGTHS` lent.
 const WHOLE: usize = 64;
 
-/// Lengths around none and around both sizes, and others that have something of them. The last but
-/// one has as many bytes as the contact net's inputs.
+/// Lengths around none and around both sizes, and others that have something of them: 808 is the
+/// number of bytes of the contact net's inputs.
 const LENGTHS: [usize; 22] = [
     0, 1, 2, 3, 4, 50, 101, 183, 184, 185, 186, 187, 188, 189, 199, 200, 201, 202, 203, 204, 808,
     1024,

@@ -93,7 +93,7 @@ impl Judge {
     }
 }
 
-/// A slice that wildbg fills. An input that it left out would stay as it is here, which none is.
+/// A slice that wildbg fills. What it left out would stay a NaN, which no input is.
 fn filled<G: InputsGen>(generator: &G, position: &Position) -> Vec<f32> {
     let mut inputs = vec![f32::NAN; G::NUM_INPUTS];
     generator.fill_inputs(position, &mut inputs);

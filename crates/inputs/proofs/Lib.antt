@@ -3,6 +3,7 @@ pub mod Floats
 pub mod Own
 pub mod Fours
 pub mod Stores
+pub mod Exact
 pub mod Answers
 pub mod Places
 pub mod Unique

@@ -21,7 +21,7 @@ pub record Own (z : ℤ) (n : ℕ) : Type 0 where
   pub least : negPart z ≤ checkers
 
 module _ {b : List ℤ} (a : Accepted checkers b) (p : ℕ) (h : p < 26) where
-  few : (xs b p ≤ checkers) × (os b p ≤ checkers)
+  pub few : (xs b p ≤ checkers) × (os b p ≤ checkers)
   few =
       let m = at-most-all b p h in
       let x = a .x-most in

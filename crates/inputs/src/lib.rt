@@ -63,11 +63,11 @@ pub enum Input {
 }
 
 // Fills the slice with the contact net's inputs, or refuses and leaves it: the entries by 1 to 4, a slice that has not exactly 202
-// values by 13. Finished and empty boards are taken.
-pub fn contact_inputs(b: [i8; 26], out: &mut [f32]) -> Filled
-    ensures { λ r. ⌜ (filledTold r ≡ contactAnswer checkers b (length (now (out .entry)))) × (now (out .exit) ≡ contactLent checkers b (now (out .entry))) ⌝ }
+// values by 13. Finished and empty boards are taken. The board is lent, which spares a copy of it beside the table.
+pub fn contact_inputs(b: &[i8; 26], out: &mut [f32]) -> Filled
+    ensures { λ r. ⌜ (filledTold r ≡ contactAnswer checkers (now (b .entry)) (length (now (out .entry)))) × (now (out .exit) ≡ contactLent checkers (now (b .entry)) (now (out .entry))) ⌝ }
 {
-    let checked = position::check(b);
+    let checked = position::check(*b);
     let refused = checked.refused;
     if refused != 0 {
         return Filled::Refused(refused);
@@ -77,15 +77,15 @@ pub fn contact_inputs(b: [i8; 26], out: &mut [f32]) -> Filled
     }
     out[0] = off(checked.all.x);
     out[1] = off(checked.all.o);
-    put_contact(&b, out);
+    put_contact(b, out);
     Filled::Done
 }
 
 // The same for the race net, whose slice has exactly 186 values.
-pub fn race_inputs(b: [i8; 26], out: &mut [f32]) -> Filled
-    ensures { λ r. ⌜ (filledTold r ≡ raceAnswer checkers b (length (now (out .entry)))) × (now (out .exit) ≡ raceLent checkers b (now (out .entry))) ⌝ }
+pub fn race_inputs(b: &[i8; 26], out: &mut [f32]) -> Filled
+    ensures { λ r. ⌜ (filledTold r ≡ raceAnswer checkers (now (b .entry)) (length (now (out .entry)))) × (now (out .exit) ≡ raceLent checkers (now (b .entry)) (now (out .entry))) ⌝ }
 {
-    let checked = position::check(b);
+    let checked = position::check(*b);
     let refused = checked.refused;
     if refused != 0 {
         return Filled::Refused(refused);
@@ -95,7 +95,7 @@ pub fn race_inputs(b: [i8; 26], out: &mut [f32]) -> Filled
     }
     out[0] = off(checked.all.x);
     out[1] = off(checked.all.o);
-    put_race(&b, out);
+    put_race(b, out);
     Filled::Done
 }
 

@@ -114,7 +114,7 @@ pub extern "C" fn munchalep_end(
 pub extern "C" fn munchalep_contact_inputs(board: &[i8; 26], inputs: &mut [f32]) -> u64
     ensures { λ r. ⌜ (r ≡ packed (contactAnswer checkers (now (board .entry)) (length (now (inputs .entry))))) × (now (inputs .exit) ≡ contactLent checkers (now (board .entry)) (now (inputs .entry))) ⌝ }
 {
-    filled_number(inputs::contact_inputs(*board, inputs))
+    filled_number(inputs::contact_inputs(board, inputs))
 }
 
 // The same of the race net and exactly 186 values.
@@ -122,7 +122,7 @@ pub extern "C" fn munchalep_contact_inputs(board: &[i8; 26], inputs: &mut [f32])
 pub extern "C" fn munchalep_race_inputs(board: &[i8; 26], inputs: &mut [f32]) -> u64
     ensures { λ r. ⌜ (r ≡ packed (raceAnswer checkers (now (board .entry)) (length (now (inputs .entry))))) × (now (inputs .exit) ≡ raceLent checkers (now (board .entry)) (now (inputs .entry))) ⌝ }
 {
-    filled_number(inputs::race_inputs(*board, inputs))
+    filled_number(inputs::race_inputs(board, inputs))
 }
 
 // The contact net's input that has the place.

@@ -16,10 +16,10 @@ use Rattle.inputs.proofs.contact_inputs.Tie as tie
 
 -- past the board's test it is accepted
 module _ (c : tie.Else1) where
-  ok : refusalOf checkers (c .before .before .before .args .t1) ≡ 0
+  ok : refusalOf checkers (c .before .before .before .before .args .b .now) ≡ 0
   ok = sym (c .before .check .ensures .judged .is) ∙ c .if1 .left
 
-  accepted : Accepted checkers (c .before .before .before .args .t1)
+  accepted : Accepted checkers (c .before .before .before .before .args .b .now)
   accepted = c .before .check .ensures .judged .ok (c .if1 .left)
 
 check-requires : tie.Need-check-requires
@@ -28,15 +28,15 @@ check-requires c κs = search needs
 returns : tie.Need-returns
 unfolding contactAnswer contactLent
 returns c =
-    let a = c .before .before .before .args in
+    let a = c .before .before .before .before .args in
     let e = c .before .check .ensures .judged .is in
-    rw e (fill-board (refusalOf checkers (a .t1)) contactSize (contactInputs checkers (a .t1)) (a .out .now) (λ z. c .if1 .taken (e ∙ z)))
+    rw e (fill-board (refusalOf checkers (a .b .now)) contactSize (contactInputs checkers (a .b .now)) (a .out .now) (λ z. c .if1 .taken (e ∙ z)))
 
 returns-2 : tie.Need-returns-2
 unfolding contactAnswer contactLent
 returns-2 c =
-    let a = c .before .before .before .before .args in
-    fill-13 (refusalOf checkers (a .t1)) contactSize (contactInputs checkers (a .t1)) (a .out .now) (ok (c .before)) (c .if2 .taken)
+    let a = c .before .before .before .before .before .args in
+    fill-13 (refusalOf checkers (a .b .now)) contactSize (contactInputs checkers (a .b .now)) (a .out .now) (ok (c .before)) (c .if2 .taken)
 
 off-requires : tie.Need-off-requires
 off-requires c κs = omega (arith, c .before .before .check .ensures .x, accepted (c .before) .x-most)
@@ -52,7 +52,7 @@ slice-write-out-2 c = simp length-set (omega (arith, c .before .before .if2 .lef
 
 put-contact-requires : tie.Need-put-contact-requires
 put-contact-requires c κs =
-    let d = c .before .before .before .before in
+    let d = c .before .before .before in
     (accepted (d .before), simp length-set (d .if2 .left))
 
 same-length : tie.Need-same-length
@@ -61,15 +61,15 @@ same-length c = c .before .before .put-contact .kept .1 .0 ∙ simp length-set
 returns-3 : tie.Need-returns-3
 unfolding contactAnswer contactLent contactInputs inputsOf
 returns-3 c =
-    let d = c .before .before .before .before .before .before .before in
-    let a = d .before .before .before .before .args in
-    let b = a .t1 in
+    let d = c .before .before .before .before .before .before in
+    let a = d .before .before .before .before .before .args in
+    let b = a .b .now in
     let o = a .out .now in
     let k = d .before .before .check .ensures in
     let e = d .if2 .left in
     let r = fill-done (refusalOf checkers b) contactSize (contactInputs checkers b) o (ok (d .before)) e in
-    let x = c .before .before .before .before .before .before .off .ensures ∙ ap (λ (n : ℕ). whole (checkers - n)) (k .x) in
-    let y = c .before .before .before .before .before .off2 .ensures ∙ ap (λ (n : ℕ). whole (checkers - n)) (k .o) in
+    let x = c .before .before .before .before .before .off .ensures ∙ ap (λ (n : ℕ). whole (checkers - n)) (k .x) in
+    let y = c .before .before .before .before .off2 .ensures ∙ ap (λ (n : ℕ). whole (checkers - n)) (k .o) in
     let l = length-map (contactInputs checkers b) whole ∙ contact-all checkers b ∙ sym e in
     (r .0, c .before .before .put-contact .ensures ∙ rw (x, y) (sets-all o (map whole (contactInputs checkers b)) l ∙ r .1))
 

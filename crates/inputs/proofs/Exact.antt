@@ -1,0 +1,72 @@
+-- Every input of an accepted board is a whole number of at most fifteen, and its f32 is that number exactly.
+-- Assumes nothing.
+use mathlib.Core.Path.{_≡_, refl}
+use mathlib.Core.Logic.{_⊎_, inl, inr}
+use mathlib.Core.Bool.{Bool, true, false, cond}
+use mathlib.Core.List.{List}
+use Prim.Native.Nat.{ℕ, zero, suc, _+_, _-_, _*_, _/_, _%_, _<_, _≤_}
+use native.Mathlib.Omega.{arith}
+use lib.Dec.{eqb, leb}
+use lib.Ieee.{toUnsigned}
+use lib.IntN.{ℤ}
+use lib.ListN.{length, getD}
+use Rattle.ints.proofs.Tests.{lt-or-le}
+use Rattle.position.specs.Board.{checkers, Accepted}
+use Rattle.inputs.specs.Inputs.{whole, four, inputsOf, contactCounts, raceCounts, contactInputs, raceInputs}
+use Rattle.inputs.specs.Answers.{contactSize, raceSize}
+use Rattle.inputs.proofs.Floats.{whole-exact}
+use Rattle.inputs.proofs.Own.{few}
+use Rattle.inputs.proofs.Fours.{length-contact, length-race, input-four, contact-bar, contact-x, contact-o, race-x, race-o}
+
+-- the values of a count are at most one, or less than it
+at-most-one : (q : Bool) → cond q 1 0 ≤ 1
+at-most-one true = omega arith
+at-most-one false = omega arith
+
+four-few : (n j : ℕ) → n ≤ checkers → getD (four n) j 0 ≤ checkers
+four-few n zero h = omega (arith, at-most-one (eqb n 1))
+four-few n (suc zero) h = omega (arith, at-most-one (eqb n 2))
+four-few n (suc (suc zero)) h = omega (arith, at-most-one (leb 3 n))
+four-few n (suc (suc (suc zero))) h = omega arith
+four-few n (suc (suc (suc (suc j)))) h = omega arith
+
+inputs-few : (b : List ℤ) (counts : List ℕ) → ((k : ℕ) → k < length counts → getD counts k 0 ≤ checkers)
+    → (p : ℕ) → p < 2 + 4 * length counts → getD (inputsOf checkers b counts) p 0 ≤ checkers
+unfolding inputsOf
+inputs-few b counts m zero h = omega arith
+inputs-few b counts m (suc zero) h = omega arith
+inputs-few b counts m (suc (suc p)) h =
+    let k = (suc (suc p) - 2) / 4 in
+    let f = four-few (getD counts k 0) ((suc (suc p) - 2) % 4) (m k (omega arith)) in
+    omega (arith, input-four checkers b counts (suc (suc p)) (omega arith) h)
+
+module _ {b : List ℤ} (a : Accepted checkers b) where
+  contact-few : (k : ℕ) → k < 50 → getD (contactCounts b) k 0 ≤ checkers
+  contact-few zero h = omega (arith, contact-bar b zero refl, few a 25 (omega arith) .0)
+  contact-few (suc k) h = go (lt-or-le (suc k) 25)
+    where
+      go : (suc k < 25) ⊎ (25 ≤ suc k) → getD (contactCounts b) (suc k) 0 ≤ checkers
+      go (inl g) = omega (arith, contact-x b (suc k) (λ z. omega arith) g, few a (suc k) (omega arith) .0)
+      go (inr g) = omega (arith, contact-o b (suc k) g h, few a (suc k - 25) (omega arith) .1)
+
+  race-few : (k : ℕ) → k < 46 → getD (raceCounts b) k 0 ≤ checkers
+  race-few k h = go (lt-or-le k 23)
+    where
+      go : (k < 23) ⊎ (23 ≤ k) → getD (raceCounts b) k 0 ≤ checkers
+      go (inl g) = omega (arith, race-x b k g, few a (k + 1) (omega arith) .0)
+      go (inr g) = omega (arith, race-o b k g h, few a (k - 21) (omega arith) .1)
+
+  -- "exactly": the f32 of an input, read back, is the input
+  pub contact-exact : (p : ℕ) → p < contactSize → toUnsigned 8 (whole (getD (contactInputs checkers b) p 0)) ≡ getD (contactInputs checkers b) p 0
+  unfolding contactInputs
+  contact-exact p h =
+      let l = length-contact b in
+      let f = inputs-few b (contactCounts b) (λ k g. contact-few k (omega arith)) p (omega arith) in
+      whole-exact (getD (inputsOf checkers b (contactCounts b)) p 0) (omega arith)
+
+  pub race-exact : (p : ℕ) → p < raceSize → toUnsigned 8 (whole (getD (raceInputs checkers b) p 0)) ≡ getD (raceInputs checkers b) p 0
+  unfolding raceInputs
+  race-exact p h =
+      let l = length-race b in
+      let f = inputs-few b (raceCounts b) (λ k g. race-few k (omega arith)) p (omega arith) in
+      whole-exact (getD (inputsOf checkers b (raceCounts b)) p 0) (omega arith)
