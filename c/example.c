@@ -122,6 +122,39 @@ static void ends(void)
     print_ends(list, 2);
 }
 
+/* Prints the first places of a row of steps. */
+static void print_row(const struct munchalep_step *row, uint64_t steps)
+{
+    uint64_t n;
+
+    printf("    row:");
+    for (n = 0; n < steps; n++)
+        printf(" %u/%u", (unsigned)row[n].from, (unsigned)row[n].to);
+    printf("\n");
+}
+
+static void recover(void)
+{
+    int8_t lone[26] = {0}, end[26] = {0};
+    struct munchalep_step row[3] = {{0, 0}, {0, 0}, {99, 99}};
+    uint64_t answer;
+
+    /* x reaches 10 over 12, where o stood alone. The row's third place stays. */
+    lone[13] = 1;
+    lone[12] = -1;
+    end[10] = 1;
+    end[0] = -1;
+    answer = munchalep_recover(lone, end, 2, 1, row, 3);
+    print_refusal("x 13:1; o 12:1, steps of 2-1 to x 10:1; o 0:1", answer);
+    printf("    steps: %u\n", (unsigned)munchalep_value_of(answer));
+    print_row(row, 3);
+    /* Refused, so the row still has those steps. */
+    print_refusal("the same with one place", munchalep_recover(lone, end, 2, 1, row, 1));
+    answer = munchalep_recover(lone, lone, 2, 1, row, 3);
+    print_refusal("x 13:1; o 12:1, steps of 2-1 to itself", answer);
+    print_row(row, 3);
+}
+
 /* Prints a key's bytes in hex. */
 static void print_key(const uint8_t key[MUNCHALEP_KEY_BYTES])
 {
@@ -184,6 +217,7 @@ int main(void)
     steps();
     result();
     ends();
+    recover();
     keys();
     inputs();
     return 0;

@@ -15,8 +15,8 @@
  * where nothing is refused; the 56 bits above it are a value, which each
  * function below describes. munchalep_refusal_of() and munchalep_value_of()
  * take the two apart. A board that is answered goes to `out`, a key to `key`,
- * the ends of a roll go to `list`; a refusal leaves them as they were. Where
- * several refusals apply, the one named first is given.
+ * the ends of a roll go to `list`, steps to `row`; a refusal leaves them as they
+ * were. Where several refusals apply, the one named first is given.
  *
  * No function keeps anything between calls, so threads may call them at once.
  */
@@ -151,6 +151,29 @@ uint64_t munchalep_count(const int8_t board[26], size_t die1, size_t die2);
  */
 uint64_t munchalep_end(const int8_t board[26], size_t die1, size_t die2, size_t number,
                        int8_t out[26]);
+
+/* One step of one checker. `from` is 25 on the bar, and `to` is 0 off the board. */
+struct munchalep_step {
+    uint8_t from, to;
+};
+
+/* The most steps that a roll can have. */
+#define MUNCHALEP_MOST_STEPS 4
+
+/*
+ * The steps behind an end, to `row`: x moves from `old` to `end` by two dice, and
+ * the steps are legal one after another, as many as the dice used, and lead
+ * there. Unlike the ends of munchalep_list(), `end` is seen from x, the side that
+ * moved: munchalep_switch() turns one into the other. The value is the number of
+ * steps, 0 where nothing can be played; places after them stay as they were.
+ * Refuses 1, 2, 3, 4, 6, 5, 7 for `old` and the dice, then 12 where `end` is not
+ * an end of the roll, then 27.
+ *
+ * `places` is the number of steps that the row lent has room for. A row with
+ * fewer places than steps is refused by 27; with MUNCHALEP_MOST_STEPS none is.
+ */
+uint64_t munchalep_recover(const int8_t old[26], const int8_t end[26], size_t die1, size_t die2,
+                           struct munchalep_step *row, size_t places);
 
 /*
  * The board's key, to `key`: the ten bytes that GNU Backgammon's Position ID

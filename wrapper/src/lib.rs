@@ -22,6 +22,7 @@ mod key;
 mod moves;
 mod position;
 pub mod raw;
+mod recover;
 mod refusal;
 
 pub use inputs::{
@@ -30,4 +31,5 @@ pub use inputs::{
 pub use key::{KEY_BYTES, Key, board_of_key, key};
 pub use moves::{END_BYTES, MOST_ENDS, count, end, list};
 pub use position::{Board, Outcome, check, result, step, switch};
+pub use recover::{MOST_STEPS, Step, recover};
 pub use refusal::Refusal;

@@ -4,7 +4,7 @@
 //! Each answers the refusal number (0: none) in the low byte and a value above it, and writes to
 //! lent memory only where it refuses nothing.
 
-use crate::{Board, Key};
+use crate::{Board, Key, Step};
 
 /// The ends of a roll, 26 bytes each, to `list`; their number, as the value.
 pub fn munchalep_list(board: &Board, die1: usize, die2: usize, list: &mut [u8]) -> u64 {
@@ -20,6 +20,29 @@ pub fn munchalep_list(board: &Board, die1: usize, die2: usize, list: &mut [u8]) 
     // SAFETY: this is the header's declaration. A slice's pointer is not null, even where its
     // length is 0, and `length` bytes from there on are lent for the call alone.
     unsafe { munchalep_list(board, die1, die2, list.as_mut_ptr(), list.len()) }
+}
+
+/// The steps from `old` to an end of a roll, both seen from the side that moves, to `row`; their
+/// number, as the value.
+pub fn munchalep_recover(
+    old: &Board,
+    end: &Board,
+    die1: usize,
+    die2: usize,
+    row: &mut [Step],
+) -> u64 {
+    unsafe extern "C" {
+        fn munchalep_recover(
+            old: &Board,
+            end: &Board,
+            die1: usize,
+            die2: usize,
+            row: *mut Step,
+            places: usize,
+        ) -> u64;
+    }
+    // SAFETY: as of `munchalep_list`, with steps lent, which are laid out as the header's.
+    unsafe { munchalep_recover(old, end, die1, die2, row.as_mut_ptr(), row.len()) }
 }
 
 /// The inputs of the contact net, to `inputs`.

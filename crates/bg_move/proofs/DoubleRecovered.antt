@@ -15,7 +15,7 @@ use Rattle.rules.proofs.Two.{can-within, can-good}
 use Rattle.rules.proofs.Marks.{mark-steps}
 use Rattle.rules.proofs.Doubles.{Sorted, sorted-below}
 use Rattle.bg_move.specs.Steps.{told, Made, lost, doubleSteps}
-use Rattle.bg_move.proofs.Lost.{lost-mark, lost-same}
+use Rattle.bg_move.proofs.Losses.{lost-mark, lost-same}
 
 module _ (d k : ℕ) (b e : List ℤ) where
   stops : lost b e 26 ≡ 0 → doubleSteps d (suc k) b e ≡ []

@@ -29,7 +29,7 @@ use Rattle.rules.proofs.Repeats.{AfterTwo, two-law, mark-two}
 use Rattle.rules.proofs.Mixed.{play-one, play-two}
 use Rattle.bg_move.specs.declared.Step.{Step}
 use Rattle.bg_move.specs.Steps.{two, Made, lost, lostNext, leads, leadsBoth, oneChecker, twoCheckers, mixedSteps}
-use Rattle.bg_move.proofs.Lost.{lost-at, lost-none, lost-mark, lost-same, next-same, next-below}
+use Rattle.bg_move.proofs.Losses.{lost-at, lost-none, lost-mark, lost-same, next-same, next-below}
 
 -- ---- what the tests of one step and of two tell
 

@@ -24,11 +24,11 @@ use Rattle.bg_move.proofs.DoubleRecovered.{double-made}
 use Rattle.bg_move.proofs.MixedRecovered.{mixed-made}
 
 module _ (b : List ℤ) (d1 d2 : ℕ) (e : List ℤ) where
-  double-steps : d1 ≡ d2 → stepsOf b d1 d2 e ≡ doubleSteps d1 4 b e
+  pub double-steps : d1 ≡ d2 → stepsOf b d1 d2 e ≡ doubleSteps d1 4 b e
   unfolding stepsOf
   double-steps q = rw (eq-eqb d1 d2 q)
 
-  mixed-steps : d1 ≢ d2 → stepsOf b d1 d2 e ≡ mixedSteps b e (min d1 d2) (max d1 d2)
+  pub mixed-steps : d1 ≢ d2 → stepsOf b d1 d2 e ≡ mixedSteps b e (min d1 d2) (max d1 d2)
   unfolding stepsOf
   mixed-steps n = rw (ne-eqb d1 d2 n)
 

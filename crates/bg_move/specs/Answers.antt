@@ -35,6 +35,10 @@ stepsValue ts = record { count = length ts; from = four (map (λ t. t .from) ts)
 unfoldable pub recoveredAnswer : ℕ → List ℤ → ℕ → ℕ → List ℤ → Recovered
 recoveredAnswer n b d1 d2 e = record { refused = recoverRefusal n b d1 d2 e; steps = stepsValue (recovered n b d1 d2 e) }
 
+-- step i of those answered, zeros past the fourth place
+abbrev pub stepAt : Recovered → ℕ → Step
+stepAt r i = record { from = getD (r .steps .from) i 0; to = getD (r .steps .to) i 0 }
+
 -- "Refusal numbers" 27: the refusal, 27 where the row has fewer places than steps, or the number of steps
 unfoldable pub rowAnswer : ℕ → List ℤ → ℕ → ℕ → List ℤ → ℕ → Answer
 rowAnswer n b d1 d2 e places =

@@ -6,10 +6,12 @@ use mathlib.Core.List.{List}
 use Prim.Native.Nat.{ℕ, zero, suc, _+_, _-_, _≤_, _<_}
 use native.Mathlib.Omega.{arith}
 use borrow.Author.Tests.{lt-ltb, le-ltb}
+use lib.Dec.{ltb}
 use lib.IntN.{ℤ}
-use Rattle.ints.proofs.Tests.{last}
+use Rattle.ints.proofs.Tests.{last, by-cond}
 use Rattle.position.specs.Board.{xs}
 use Rattle.position.specs.Phase.{highest}
+use Rattle.position.proofs.Phases.{highest-here, highest-less}
 use Rattle.rules.proofs.Marks.{Mark}
 use Rattle.bg_move.specs.Steps.{lost, lostNext}
 
@@ -58,3 +60,29 @@ module _ (b e : List ℤ) where
 -- no point lost one where nothing changed
 pub lost-same : (b e : List ℤ) → e ≡ b → lost b e 26 ≡ 0
 lost-same b e q = rw q (lost-none b b 26 (λ i l. omega arith))
+
+-- ---- as the search from above goes
+
+module _ (b e : List ℤ) (i : ℕ) where
+  pub lost-here : 0 < i → xs e (i - 1) < xs b (i - 1) → lost b e i ≡ i - 1
+  unfolding lost
+  lost-here h p = highest-here (λ k. xs b k - xs e k) i h (omega arith)
+
+  pub lost-less : 0 < i → xs b (i - 1) ≤ xs e (i - 1) → lost b e i ≡ lost b e (i - 1)
+  unfolding lost
+  lost-less h p = highest-less (λ k. xs b k - xs e k) i h (omega arith)
+
+highest-most : (f : ℕ → ℕ) (n m : ℕ) → n ≤ suc m → highest f n ≤ m
+unfolding highest
+highest-most f zero m h = omega arith
+highest-most f (suc n) m h =
+    by-cond (ltb 0 (f n)) n (highest f n) (λ k. k ≤ m) (λ q. omega arith) (λ q. highest-most f n m (omega arith))
+
+-- what is found below a number stands there
+pub lost-most : (b e : List ℤ) (n m : ℕ) → n ≤ suc m → lost b e n ≤ m
+unfolding lost
+lost-most b e n m h = highest-most (λ k. xs b k - xs e k) n m h
+
+pub next-most : (b e : List ℤ) (f m : ℕ) → f ≤ m → lostNext b e f ≤ m
+unfolding lostNext
+next-most b e f m h = by-cond (ltb 1 (xs b f - xs e f)) f (lost b e f) (λ k. k ≤ m) (λ q. h) (λ q. lost-most b e f m (omega arith))
