@@ -15,3 +15,5 @@ pub mod Unique
 pub mod Tried
 pub mod TurnRead
 pub mod Replays
+pub mod TurnRecords
+pub mod Stores

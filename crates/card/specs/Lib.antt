@@ -4,3 +4,4 @@ pub mod Card
 pub mod Read
 pub mod Answers
 pub mod Replay
+pub mod Records
