@@ -3,11 +3,11 @@
 use mathlib.Core.Path.{_≡_, refl, sym, ap, _∙_, subst}
 use mathlib.Core.Bool.{Bool, true, false, cond}
 use mathlib.Core.List.{List}
-use Prim.Native.Nat.{ℕ, zero, suc, _+_, _-_, _*_, _≤_, _<_}
+use Prim.Native.Nat.{ℕ, suc, _+_, _-_, _≤_, _<_}
 use native.Mathlib.Numerals.{add-one}
 use native.Mathlib.Omega.{arith}
 use borrow.Author.Tests.{lt-ltb, le-ltb, eq-eqb, eqb-true, eqb-false, ne-eqb}
-use lib.Dec.{ltb, eqb}
+use lib.Dec.{eqb}
 use lib.IntN.{ℤ}
 use lib.ListN.{length, drop}
 use Rattle.ints.specs.Answer.{Answer, value, refused}
@@ -16,10 +16,11 @@ use Rattle.position.specs.Answers.{Started, boardAnswer}
 use Rattle.position.specs.declared.BoardAnswer.{BoardAnswer}
 use Rattle.key.specs.Key.{keyRefusal, boardOf, boardOfKeyAnswer}
 use Rattle.card.specs.declared.reader.Reading.{Reading}
-use Rattle.card.specs.Read.{marked, startKey, startRecordRefusal, turnAt, turnRefusal, afterTurn, boardAfter, readFrom, readAnswer}
+use Rattle.card.specs.Read.{marked, startKey, startRecordRefusal, turnAt, boardAfter, readFrom, readAnswer}
 use Rattle.card.specs.declared.PositionAnswer.{PositionAnswer}
 use Rattle.card.specs.Answers.{noPosition, positionFrom, positionAnswer}
-use Rattle.card.specs.Replay.{Reached, StartRead, TurnRead, replayTold, Replayed}
+use Rattle.card.specs.Replay.{StartRead, TurnRead, Replayed}
+use Rattle.card.proofs.Records.{refusalAt, read-end, read-over, read-on, read-refused, read-begins, read-unbegun}
 use Rattle.card.proofs.TurnRead.{refuse}
 
 -- ---- the start record
@@ -72,32 +73,6 @@ module _ (n : ℕ) (card : List ℕ) where
 
 -- ---- the loop over the turns
 
-module _ (card : List ℕ) (k : ℕ) where
-  read-end : (left : ℕ) → length card ≤ turnAt k → readFrom left card k ≡ value k
-  unfolding readFrom
-  read-end zero h = rw (le-ltb (turnAt k) (length card) h)
-  read-end (suc left) h = rw (le-ltb (turnAt k) (length card) h)
-
-  module _ (h : turnAt k < length card) where
-    read-over : (left : ℕ) → left ≡ 0 → readFrom left card k ≡ refused 22 (turnAt k)
-    unfolding readFrom
-    read-over zero z = rw (lt-ltb (turnAt k) (length card) h)
-    read-over (suc left) z = absurd (omega arith)
-
-    read-refused : (left : ℕ) → 0 < left → 0 < turnRefusal (boardAfter card k) (drop (turnAt k) card)
-        → readFrom left card k ≡ refused (turnRefusal (boardAfter card k) (drop (turnAt k) card)) (turnAt k)
-    unfolding readFrom
-    read-refused zero z p = absurd (omega arith)
-    read-refused (suc left) z p = rw (lt-ltb (turnAt k) (length card) h, lt-ltb 0 (turnRefusal (boardAfter card k) (drop (turnAt k) card)) p)
-
-    read-on : (left : ℕ) → 0 < left → turnRefusal (boardAfter card k) (drop (turnAt k) card) ≡ 0
-        → readFrom left card k ≡ readFrom (left - 1) card (suc k)
-    unfolding readFrom
-    read-on zero z p = absurd (omega arith)
-    read-on (suc left) z p =
-        let e : suc left - 1 ≡ left = omega arith in
-        rw (lt-ltb (turnAt k) (length card) h, le-ltb 0 (turnRefusal (boardAfter card k) (drop (turnAt k) card)) (omega arith), e)
-
 -- the loop's invariant: k turns were read, the board after them is b, the next record begins at `at`, and the rest of the card is
 -- what is left to answer; the board after `stop` turns is noted once they are read
 pub record Going (n m : ℕ) (card : List ℕ) (stop : ℕ) (b asked : List ℤ) (k at : ℕ) : Type 0 where
@@ -119,24 +94,21 @@ module _ (n m : ℕ) (card : List ℕ) (stop : ℕ) where
 
   -- the start record is refused
   pub replay-no-start : {s : BoardAnswer} (r : Reading) → StartRead n card s → (s .refused ≡ 0 → ⊥) → r .refused ≡ s .refused → r .at ≡ 0 → Replayed n m card stop r
-  unfolding readAnswer
   replay-no-start {s} r j z e p =
       let i = j .number in
-      replay-refused r (λ q. z (sym e ∙ q)) (rw (e, p, i, lt-ltb 0 (startRecordRefusal n card) (omega (arith, z))))
+      replay-refused r (λ q. z (sym e ∙ q)) (rw (e, p, i) (sym (read-unbegun n m card (omega (arith, z)))))
 
   -- the loop begins
   pub going-start : {s : BoardAnswer} → StartRead n card s → s .refused ≡ 0 → Going n m card stop (s .board) (s .board) 0 12
-  unfolding readAnswer boardAfter
+  unfolding boardAfter
   going-start {s} j z =
-      let i = j .number in
-      let p : startRecordRefusal n card ≡ 0 = sym i ∙ z in
       let q : m - 0 ≡ m = omega arith in
       record {
         few = omega arith;
         place = refl;
         board = j .board z;
         ok = subst (Accepted n) (sym (j .board z)) (j .ok z);
-        rest = rw (le-ltb 0 (startRecordRefusal n card) (omega arith), q);
+        rest = rw q (read-begins n m card (sym (j .number) ∙ z));
         noted = λ h. let e : stop ≡ 0 = omega arith in rw e (j .board z);
       }
 
@@ -146,7 +118,7 @@ module _ (n m : ℕ) (card : List ℕ) (stop : ℕ) where
     replay-all r h z t l a =
         let p = g .place in
         record {
-          told = rw (z, t) (sym (g .rest ∙ read-end card k (m - k) (omega arith)));
+          told = rw (z, t) (sym (g .rest ∙ read-end (m - k) card k (omega arith)));
           last = λ q. l ∙ g .board ∙ ap (boardAfter card) (sym t);
           ok = λ q. subst (Accepted n) (sym l) (g .ok);
           asked = λ q s. a ∙ g .noted (omega arith);
@@ -157,12 +129,16 @@ module _ (n m : ℕ) (card : List ℕ) (stop : ℕ) where
       pub replay-over : (r : Reading) → k ≡ m → r .refused ≡ 22 → r .at ≡ at → Replayed n m card stop r
       replay-over r e z p =
           let i = g .place in
-          replay-refused r (λ q. omega arith)
-          (rw (z, p, i) (sym (g .rest ∙ read-over card k (omega arith) (m - k) (omega arith))))
+          let none : m - k ≡ 0 = omega arith in
+          replay-refused r (λ q. omega arith) (rw (z, p, i) (sym (g .rest ∙ rw none (read-over card k (omega arith)))))
 
       module _ (less : k ≡ m → ⊥) {s : BoardAnswer} (j : TurnRead n b (drop at card) s) where
+        -- there are more turns to come
+        more : m - k ≡ suc (m - suc k)
+        more = let f = g .few in omega (arith, less)
+
         -- the next turn, as the definition has it
-        number-of : s .refused ≡ turnRefusal (boardAfter card k) (drop (turnAt k) card)
+        number-of : s .refused ≡ refusalAt card k
         number-of = j .number ∙ rw (g .board, g .place)
 
         board-of : s .refused ≡ 0 → s .board ≡ boardAfter card (suc k)
@@ -172,10 +148,9 @@ module _ (n m : ℕ) (card : List ℕ) (stop : ℕ) where
         pub replay-no-turn : (r : Reading) → (s .refused ≡ 0 → ⊥) → r .refused ≡ s .refused → r .at ≡ at → Replayed n m card stop r
         replay-no-turn r z e p =
             let i = g .place in
-            let f = g .few in
             let d = number-of in
             replay-refused r (λ q. z (sym e ∙ q))
-            (rw (e, p, i, d) (sym (g .rest ∙ read-refused card k (omega arith) (m - k) (omega (arith, less)) (omega (arith, z)))))
+            (rw (e, p, i, d) (sym (g .rest ∙ rw more (read-refused (m - suc k) card k (omega arith) (omega (arith, z))))))
 
         pub going-on : s .refused ≡ 0 → {note : List ℤ} → note ≡ cond (eqb (k + 1) stop) (s .board) asked
             → Going n m card stop (s .board) note (k + 1) (at + 5)
@@ -183,13 +158,12 @@ module _ (n m : ℕ) (card : List ℕ) (stop : ℕ) where
             let i = g .place in
             let f = g .few in
             let d = number-of in
-            let w : m - k - 1 ≡ m - (k + 1) = omega arith in
             record {
               few = omega (arith, less);
               place = omega arith;
               board = board-of z ∙ ap (boardAfter card) (sym (add-one k));
               ok = subst (Accepted n) (sym (j .board z)) (j .ok z);
-              rest = g .rest ∙ read-on card k (omega arith) (m - k) (omega (arith, less)) (omega arith) ∙ rw (w, add-one k);
+              rest = g .rest ∙ rw (more, add-one k) (read-on (m - suc k) card k (omega arith) (omega arith));
               noted = λ h. q ∙ note-is (eqb (k + 1) stop) refl h;
             }
           where

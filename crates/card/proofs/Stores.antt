@@ -1,7 +1,7 @@
 -- What the entries that write a card answer and leave in the buffer, as the code's tests go.
 -- Assumes nothing.
-use mathlib.Core.Path.{_≡_, refl, sym, ap, _∙_}
-use mathlib.Core.List.{List, _∷_}
+use mathlib.Core.Path.{_≡_, sym, ap, _∙_}
+use mathlib.Core.List.{List}
 use Prim.Native.Nat.{ℕ, _+_, _≤_, _<_}
 use native.Mathlib.Omega.{arith}
 use borrow.Author.Tests.{lt-ltb, le-ltb, eq-eqb}
@@ -9,19 +9,19 @@ use lib.IntN.{ℤ}
 use lib.ListN.{length, take, set}
 use lib.Seq.{sets, sets-eq}
 use Rattle.ints.specs.Answer.{Answer, value, refused}
-use Rattle.ints.proofs.Bits.{length-bytes}
 use Rattle.position.specs.Board.{Accepted, refusalOf, startRefusal}
 use Rattle.position.proofs.Boards.{accepted-unrefused}
-use Rattle.key.specs.Key.{keyBits, keyOf, keyAnswer}
+use Rattle.key.specs.Key.{keyOf, keyAnswer}
 use Rattle.key.specs.declared.KeyAnswer.{KeyAnswer}
 use Rattle.card.specs.declared.CardAnswer.{CardAnswer}
 use Rattle.card.specs.declared.reader.Reading.{Reading}
 use Rattle.card.specs.declared.writer.RecordAnswer.{RecordAnswer}
 use Rattle.card.specs.Card.{startRecord}
-use Rattle.card.specs.Read.{boardAfter, readAnswer}
+use Rattle.card.specs.Read.{readAnswer}
 use Rattle.card.specs.Answers.{cardTold, beginAnswer, begunIn, lentAfter, turnAnswer, addFrom, addAnswer, lastFrom, addedRecord, addedIn}
 use Rattle.card.specs.Replay.{Replayed}
 use Rattle.card.specs.Records.{recordRefusal, RecordMade}
+use Rattle.card.proofs.Starts.{length-key, length-start}
 use Rattle.card.proofs.Replays.{told-refused, told-value}
 use Rattle.card.proofs.TurnRecords.{turn-over, turn-refused, turn-no-room, turn-added}
 
@@ -33,12 +33,7 @@ unfolding keyAnswer
 key-is n b r a e = ap (λ (x : KeyAnswer). x .key) e ∙ rw (eq-eqb (refusalOf n b) 0 (accepted-unrefused n b a))
 
 pub key-length : (n : ℕ) (b : List ℤ) (r : KeyAnswer) → Accepted n b → r ≡ keyAnswer n b → length (r .key) ≡ 10
-unfolding keyOf
-key-length n b r a e = ap length (key-is n b r a e) ∙ length-bytes 10 (keyBits b)
-
-length-start : (b : List ℤ) → length (startRecord b) ≡ 12
-unfolding keyOf
-length-start b = omega (arith, length-bytes 10 (keyBits b))
+key-length n b r a e = ap length (key-is n b r a e) ∙ length-key b
 
 module _ (n : ℕ) (b : List ℤ) (room : ℕ) where
   begin-board : 0 < startRefusal n b → refused (startRefusal n b) 0 ≡ beginAnswer n b room

@@ -2,11 +2,10 @@
 -- Assumes nothing.
 use mathlib.Core.Path.{_≡_, refl, sym, ap, _∙_, subst}
 use mathlib.Core.Bool.{Bool, true, false, cond}
-use mathlib.Core.List.{List, [], _∷_}
-use mathlib.Core.Logic.{inl, inr}
-use Prim.Native.Nat.{ℕ, zero, suc, _+_, _/_, _%_, _≤_, _<_}
+use mathlib.Core.List.{List, []}
+use Prim.Native.Nat.{ℕ, _/_, _%_, _≤_, _<_}
 use native.Mathlib.Omega.{arith}
-use borrow.Author.Tests.{lt-ltb, le-ltb, ltb-true, eq-eqb, eqb-true, ne-eqb}
+use borrow.Author.Tests.{lt-ltb, le-ltb, ltb-true, eqb-true}
 use lib.Dec.{ltb, eqb}
 use lib.IntN.{ℤ}
 use lib.ListN.{length, getD}
@@ -16,15 +15,17 @@ use Rattle.dice.specs.Rolls.{rolls}
 use Rattle.dice.specs.Dice.{isDie, isByteIn, rollOf, diceOfByte}
 use Rattle.dice.proofs.TwoDice.{test-die, range-die}
 use Rattle.dice.proofs.Bytes.{in-order}
-use Rattle.position.specs.Board.{Accepted, xAll, oAll, refusalOf, startRefusal}
+use Rattle.position.specs.Board.{Accepted}
 use Rattle.position.specs.Answers.{boardAnswer}
 use Rattle.position.specs.declared.BoardAnswer.{BoardAnswer}
-use Rattle.position.proofs.Boards.{accepted-unrefused}
-use Rattle.rules.specs.Ends.{switchedEndsOf, In}
+use Rattle.rules.specs.Ends.{switchedEndsOf}
 use Rattle.rules.proofs.Switched.{switched-end-accepted}
 use Rattle.moves.specs.Answers.{playRefusal, endsCount, endRefusal, endAnswer}
+use Rattle.end_number.proofs.Place.{in-place, number-once}
 use Rattle.card.specs.Read.{marked, finished, endNumber, turnRefusal, afterTurn}
 use Rattle.card.specs.Replay.{Reached, playedRefusal, Played, TurnRead}
+use Rattle.card.proofs.Turns.{unfinished-test}
+use Rattle.card.proofs.Starts.{start-unrefused}
 
 -- a refusal's answer
 pub refuse : {n refusal : ℕ} {b : List ℤ} {r : BoardAnswer} (k : ℕ) → 0 < k → r .refused ≡ k → k ≡ refusal → Reached n refusal b r
@@ -32,58 +33,38 @@ refuse k h e s = record { number = e ∙ s; board = λ z. absurd (omega arith); 
 
 -- ---- a turn played
 
-in-getD : (l : List (List ℤ)) (k : ℕ) → k < length l → In (getD l k []) l
-in-getD [] k h = absurd (omega arith)
-in-getD (e ∷ l) zero h = inl refl
-in-getD (e ∷ l) (suc k) h = inr (in-getD l k (omega arith))
+module _ (n : ℕ) (b : List ℤ) (a : Accepted n b) (f : finished b ≡ false) (d1 d2 : ℕ) (one : isDie d1 ≡ true) (two : isDie d2 ≡ true) where
+  pub playable : playRefusal n b d1 d2 ≡ 0
+  unfolding playRefusal
+  playable = rw (start-unrefused n b a (unfinished-test b f), one, two)
 
--- no side of an unfinished board has all its checkers off
-pub unfinished : (b : List ℤ) → finished b ≡ false → xAll b ≡ 0 → ⊥
-unfinished b f z =
-    let t : true ≡ false = rw (eq-eqb (xAll b) 0 z) at f in
-    let n : _≡_ {A = ℕ} 0 1 = cc in
-    omega arith
+  end-is : (k : ℕ) → endRefusal n b d1 d2 k ≡ cond (ltb k (endsCount b d1 d2)) 0 11
+  unfolding endRefusal
+  end-is k = rw (le-ltb 0 (playRefusal n b d1 d2) (omega (arith, playable)))
 
-module _ (n : ℕ) (b : List ℤ) (a : Accepted n b) (f : finished b ≡ false) where
-  pub starts : startRefusal n b ≡ 0
-  unfolding startRefusal
-  starts = rw (
-    le-ltb 0 (refusalOf n b) (omega (arith, accepted-unrefused n b a)),
-    ne-eqb (xAll b + oAll b) 0 (λ z. unfinished b f (omega arith)),
-    f,
-  )
+  listed-accepted : (k : ℕ) → k < endsCount b d1 d2 → Accepted n (getD (switchedEndsOf b d1 d2) k [])
+  unfolding endsCount
+  listed-accepted k h =
+      let e = getD (switchedEndsOf b d1 d2) k [] in
+      let q = number-once n b d1 d2 a (test-die d1 one) (test-die d2 two) k h in
+      switched-end-accepted n b d1 d2 a (test-die d1 one) (test-die d2 two) e (in-place e (switchedEndsOf b d1 d2) (omega arith))
 
-  module _ (d1 d2 : ℕ) (one : isDie d1 ≡ true) (two : isDie d2 ≡ true) where
-    pub playable : playRefusal n b d1 d2 ≡ 0
-    unfolding playRefusal
-    playable = rw (le-ltb 0 (startRefusal n b) (omega (arith, starts)), one, two)
-
-    end-is : (k : ℕ) → endRefusal n b d1 d2 k ≡ cond (ltb k (endsCount b d1 d2)) 0 11
-    unfolding endRefusal
-    end-is k = rw (le-ltb 0 (playRefusal n b d1 d2) (omega (arith, playable)))
-
-    listed-accepted : (k : ℕ) → k < endsCount b d1 d2 → Accepted n (getD (switchedEndsOf b d1 d2) k [])
-    unfolding endsCount
-    listed-accepted k h =
-        switched-end-accepted n b d1 d2 a (test-die d1 one) (test-die d2 two) (getD (switchedEndsOf b d1 d2) k [])
-        (in-getD (switchedEndsOf b d1 d2) k h)
-
-    -- the end with a number, as the generator answers it
-    end-reached : (k : ℕ) (r : BoardAnswer) → r ≡ endAnswer n b d1 d2 k
-        → Reached n (cond (ltb k (endsCount b d1 d2)) 0 11) (getD (switchedEndsOf b d1 d2) k []) r
-    unfolding endAnswer boardAnswer
-    end-reached k r e = go (ltb k (endsCount b d1 d2)) refl
-      where
-        go : (t : Bool) → ltb k (endsCount b d1 d2) ≡ t → Reached n (cond t 0 11) (getD (switchedEndsOf b d1 d2) k []) r
-        go true h =
-            let z : endRefusal n b d1 d2 k ≡ 0 = end-is k ∙ ap (λ (t : Bool). cond t 0 11) h in
-            record {
-              number = ap (λ (x : BoardAnswer). x .refused) e ∙ z;
-              board = λ q. ap (λ (x : BoardAnswer). x .board) e ∙ rw z;
-              ok = λ q. listed-accepted k (ltb-true k (endsCount b d1 d2) h);
-            }
-        go false h =
-            refuse 11 (omega arith) (ap (λ (x : BoardAnswer). x .refused) e ∙ end-is k ∙ ap (λ (t : Bool). cond t 0 11) h) refl
+  -- the end with a number, as the generator answers it
+  end-reached : (k : ℕ) (r : BoardAnswer) → r ≡ endAnswer n b d1 d2 k
+      → Reached n (cond (ltb k (endsCount b d1 d2)) 0 11) (getD (switchedEndsOf b d1 d2) k []) r
+  unfolding endAnswer boardAnswer
+  end-reached k r e = go (ltb k (endsCount b d1 d2)) refl
+    where
+      go : (t : Bool) → ltb k (endsCount b d1 d2) ≡ t → Reached n (cond t 0 11) (getD (switchedEndsOf b d1 d2) k []) r
+      go true h =
+          let z : endRefusal n b d1 d2 k ≡ 0 = end-is k ∙ ap (λ (t : Bool). cond t 0 11) h in
+          record {
+            number = ap (λ (x : BoardAnswer). x .refused) e ∙ z;
+            board = λ q. ap (λ (x : BoardAnswer). x .board) e ∙ rw z;
+            ok = λ q. listed-accepted k (ltb-true k (endsCount b d1 d2) h);
+          }
+      go false h =
+          refuse 11 (omega arith) (ap (λ (x : BoardAnswer). x .refused) e ∙ end-is k ∙ ap (λ (t : Bool). cond t 0 11) h) refl
 
 -- ---- the dice byte of a turn
 
