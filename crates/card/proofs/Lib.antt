@@ -17,3 +17,4 @@ pub mod TurnRead
 pub mod Replays
 pub mod TurnRecords
 pub mod Stores
+pub mod Carried
