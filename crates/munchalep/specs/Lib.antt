@@ -1,2 +1,3 @@
 -- What the C interface leaves in lent memory.
 pub mod Lent
+pub mod LentCard

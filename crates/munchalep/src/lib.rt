@@ -1,6 +1,7 @@
 // The C interface: thin functions over the proved crates, declared for C in include/munchalep.h.
 // Every function answers one number: the refusal's in the low byte, 0 for none, and 256 times the value above it. A board, a
 // key or an input that is answered goes to an out parameter, which a refusal leaves as it was.
+pub mod game_card;
 pub mod recover;
 
 use inputs::Filled;

@@ -1,0 +1,45 @@
+-- `munchalep::game_card::card_number` meets its contract: each case has its number, and a small value or place fits above it.
+use Prim.Native.Nat.{_≤_}
+use native.Mathlib.Omega.{arith}
+use borrow.Author.Needs.{needs}
+use Rattle.ints.specs.Answer.{carried}
+use Rattle.card.specs.Answers.{cardTold}
+use Rattle.munchalep.proofs.game_card.card_number.Statement.{statement}
+use Rattle.munchalep.proofs.game_card.card_number.Tie as tie
+
+enum-known-answer : tie.Need-enum-known-answer
+enum-known-answer c = search needs
+
+mul-result : tie.Need-mul-result
+mul-result c = omega (arith, rw (c .before .answer .given .1) at (c .before .before .before .pre))
+
+enum-known-answer-2 : tie.Need-enum-known-answer-2
+enum-known-answer-2 c = search needs
+
+cast-result : tie.Need-cast-result
+cast-result c = search needs
+
+mul-result-2 : tie.Need-mul-result-2
+mul-result-2 c = omega (arith, rw (c .before .before .answer2 .given .1) at (c .before .before .before .before .pre))
+
+add-result : tie.Need-add-result
+add-result c = omega (arith, rw (c .before .before .answer2 .given .1) at (c .before .before .before .before .pre))
+
+returns : tie.Need-returns
+returns c = rw (c .before .answer .given .1)
+
+returns-2 : tie.Need-returns-2
+returns-2 c = rw (c .before .before .answer2 .given .1)
+
+pub card-number-spec : {M : Type 1} → statement M
+card-number-spec =
+    tie.close
+    (tie.spec
+    enum-known-answer
+    mul-result
+    enum-known-answer-2
+    cast-result
+    mul-result-2
+    add-result
+    returns
+    returns-2)
