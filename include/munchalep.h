@@ -15,8 +15,9 @@
  * where nothing is refused; the 56 bits above it are a value, which each
  * function below describes. munchalep_refusal_of() and munchalep_value_of()
  * take the two apart. A board that is answered goes to `out`, a key to `key`,
- * the ends of a roll go to `list`, steps to `row`; a refusal leaves them as they
- * were. Where several refusals apply, the one named first is given.
+ * the ends of a roll go to `list`, steps to `row`, records of a card to `buffer`;
+ * a refusal leaves them as they were. Where several refusals apply, the one named
+ * first is given.
  *
  * No function keeps anything between calls, so threads may call them at once.
  */
@@ -207,6 +208,53 @@ uint64_t munchalep_race_inputs(const int8_t board[26], float *inputs, size_t len
  */
 uint64_t munchalep_contact_input(const int8_t board[26], size_t place, float *out);
 uint64_t munchalep_race_input(const int8_t board[26], size_t place, float *out);
+
+/*
+ * A game card is a start record, which holds the key of the start board, and a
+ * record for each turn: its dice, and the number of its end in the order of
+ * munchalep_list(). A game has at most 1,000 turns, so MUNCHALEP_CARD_BYTES have
+ * room for any card.
+ */
+#define MUNCHALEP_START_BYTES 12
+#define MUNCHALEP_TURN_BYTES 5
+#define MUNCHALEP_MOST_TURNS 1000
+#define MUNCHALEP_CARD_BYTES 5012
+
+/*
+ * Begins a card in a buffer of `room` bytes: the start record of the board goes
+ * to its first 12 bytes. The value is 12, the card's length. Refuses 1, 2, 3, 4,
+ * 6, 5, 19.
+ */
+uint64_t munchalep_card_begin(const int8_t board[26], uint8_t *buffer, size_t room);
+
+/*
+ * Adds a turn to the card in the first `length` bytes of a buffer of `room`
+ * bytes: its record goes to the 5 bytes after them, and all other bytes stay.
+ * The turn is played from the card's last position, and `end` is the board that
+ * it leaves, as the other side sees it (sides switched). The value is the card's
+ * new length. Refuses 19 where `length` is above `room`, what
+ * munchalep_card_read() refuses of the card, with its value, then 22, 25, 7, 12,
+ * 19.
+ */
+uint64_t munchalep_card_add(uint8_t *buffer, size_t room, size_t length, size_t die1, size_t die2,
+                            const int8_t end[26]);
+
+/*
+ * Reads the whole card in `length` bytes. The value is the number of its turns.
+ * Refuses 20, 21, 15, 16, 17, 18, 6, 5; then for each turn 22, 23, 24, 25, 26,
+ * 11, and then the value is the first byte of the refused record, 0 for the
+ * start record.
+ */
+uint64_t munchalep_card_read(const uint8_t *card, size_t length);
+
+/*
+ * The position of a card with a number, to `out`: 0 is the start board, k the
+ * board after turn k, as the side sees it that moves next. Refuses what
+ * munchalep_card_read() refuses, with its value, then 36 for a number above the
+ * number of turns. Else the value is 0.
+ */
+uint64_t munchalep_card_position(const uint8_t *card, size_t length, size_t number,
+                                 int8_t out[26]);
 
 #ifdef __cplusplus
 }

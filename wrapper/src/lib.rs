@@ -17,6 +17,7 @@
 
 #![no_std]
 
+mod card;
 mod inputs;
 mod key;
 mod moves;
@@ -25,6 +26,9 @@ pub mod raw;
 mod recover;
 mod refusal;
 
+pub use card::{
+    CARD_BYTES, MOST_TURNS, START_BYTES, TURN_BYTES, card_add, card_begin, card_position, card_read,
+};
 pub use inputs::{
     CONTACT_INPUTS, RACE_INPUTS, contact_input, contact_inputs, race_input, race_inputs,
 };

@@ -63,6 +63,61 @@ pub fn munchalep_race_inputs(board: &Board, inputs: &mut [f32]) -> u64 {
     unsafe { munchalep_race_inputs(board, inputs.as_mut_ptr(), inputs.len()) }
 }
 
+/// Begins a card in `buffer`; its length, as the value.
+pub fn munchalep_card_begin(board: &Board, buffer: &mut [u8]) -> u64 {
+    unsafe extern "C" {
+        fn munchalep_card_begin(board: &Board, buffer: *mut u8, room: usize) -> u64;
+    }
+    // SAFETY: as of `munchalep_list`.
+    unsafe { munchalep_card_begin(board, buffer.as_mut_ptr(), buffer.len()) }
+}
+
+/// Adds a turn to the card in the first `length` bytes of `buffer`; its new length, as the value.
+pub fn munchalep_card_add(
+    buffer: &mut [u8],
+    length: usize,
+    die1: usize,
+    die2: usize,
+    end: &Board,
+) -> u64 {
+    unsafe extern "C" {
+        fn munchalep_card_add(
+            buffer: *mut u8,
+            room: usize,
+            length: usize,
+            die1: usize,
+            die2: usize,
+            end: &Board,
+        ) -> u64;
+    }
+    // SAFETY: as of `munchalep_list`. The card's length is any number: one above the buffer's is
+    // refused.
+    unsafe { munchalep_card_add(buffer.as_mut_ptr(), buffer.len(), length, die1, die2, end) }
+}
+
+/// Reads a card; the number of its turns, as the value.
+pub fn munchalep_card_read(card: &[u8]) -> u64 {
+    unsafe extern "C" {
+        fn munchalep_card_read(card: *const u8, length: usize) -> u64;
+    }
+    // SAFETY: as of `munchalep_list`, with bytes that are only read.
+    unsafe { munchalep_card_read(card.as_ptr(), card.len()) }
+}
+
+/// The position of a card with a number, to `out`.
+pub fn munchalep_card_position(card: &[u8], number: usize, out: &mut Board) -> u64 {
+    unsafe extern "C" {
+        fn munchalep_card_position(
+            card: *const u8,
+            length: usize,
+            number: usize,
+            out: &mut Board,
+        ) -> u64;
+    }
+    // SAFETY: as of `munchalep_card_read`, and `out` overlaps nothing else.
+    unsafe { munchalep_card_position(card.as_ptr(), card.len(), number, out) }
+}
+
 // SAFETY: these are the header's declarations. A reference is not null and the array types fix the
 // lengths; a `&mut` overlaps nothing else. The header asks no more.
 unsafe extern "C" {
