@@ -1,9 +1,8 @@
 -- What an answer carries is small: a number of turns, a place in a card, or a card's new length.
 -- Assumes nothing.
-use mathlib.Core.Path.{_≡_, refl}
-use mathlib.Core.Bool.{Bool, true, false, cond, _&&_}
+use mathlib.Core.Bool.{Bool, cond, _&&_}
 use mathlib.Core.List.{List}
-use Prim.Native.Nat.{ℕ, _+_, _≤_, _<_}
+use Prim.Native.Nat.{ℕ, _+_, _≤_}
 use native.Mathlib.Omega.{arith}
 use borrow.Author.Tests.{ltb-false}
 use lib.Dec.{ltb}
@@ -17,7 +16,6 @@ use Rattle.position.specs.Board.{startRefusal}
 use Rattle.rules.specs.Ends.{switchedEndsOf}
 use Rattle.moves.specs.Answers.{endsCount}
 use Rattle.end_number.specs.Number.{place}
-use Rattle.card.specs.declared.PositionAnswer.{PositionAnswer}
 use Rattle.card.specs.Read.{turnAt, finished, boardAfter, readAnswer}
 use Rattle.card.specs.Answers.{noPosition, positionFrom, positionAnswer, beginAnswer, turnAnswer, addFrom, addAnswer}
 use Rattle.card.proofs.Refusals.{FirstRefusal, in-start, in-turn, too-many, Tells, answer-tells}

@@ -17,7 +17,6 @@ use Rattle.position.specs.declared.BoardAnswer.{BoardAnswer}
 use Rattle.key.specs.Key.{keyRefusal, boardOf, boardOfKeyAnswer}
 use Rattle.card.specs.declared.reader.Reading.{Reading}
 use Rattle.card.specs.Read.{marked, startKey, startRecordRefusal, turnAt, boardAfter, readFrom, readAnswer}
-use Rattle.card.specs.declared.PositionAnswer.{PositionAnswer}
 use Rattle.card.specs.Answers.{noPosition, positionFrom, positionAnswer}
 use Rattle.card.specs.Replay.{StartRead, TurnRead, Replayed}
 use Rattle.card.proofs.Records.{refusalAt, read-end, read-over, read-on, read-refused, read-begins, read-unbegun}

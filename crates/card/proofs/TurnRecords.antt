@@ -1,9 +1,9 @@
 -- How a turn's record is made, as the code's tests go.
 -- Assumes nothing.
-use mathlib.Core.Path.{_≡_, refl, sym, ap, _∙_, subst}
+use mathlib.Core.Path.{_≡_, refl, _∙_, subst}
 use mathlib.Core.Bool.{Bool, true, false, cond, _&&_}
-use mathlib.Core.List.{List, [], _∷_}
-use Prim.Native.Nat.{ℕ, _+_, _/_, _%_, min, max, _≤_, _<_}
+use mathlib.Core.List.{List}
+use Prim.Native.Nat.{ℕ, _+_, min, max, _≤_, _<_}
 use native.Mathlib.Omega.{arith}
 use borrow.Author.Tests.{lt-ltb, le-ltb, ltb-true}
 use lib.Dec.{ltb}
@@ -19,7 +19,7 @@ use Rattle.moves.proofs.Entries.{count-most}
 use Rattle.end_number.specs.Number.{place, numberAnswer}
 use Rattle.card.specs.declared.writer.RecordAnswer.{RecordAnswer}
 use Rattle.card.specs.Read.{finished}
-use Rattle.card.specs.Answers.{addedRecord, turnAnswer}
+use Rattle.card.specs.Answers.{turnAnswer}
 use Rattle.card.specs.Records.{recordRefusal, RecordMade, RecordOf}
 use Rattle.card.proofs.TurnRead.{playable}
 

@@ -1,5 +1,5 @@
 -- `card::add` meets its contract: the tests are the definition's, in their order, and the stores are the turn's record.
-use mathlib.Core.Path.{_≡_, refl, sym, ap, _∙_}
+use mathlib.Core.Path.{refl, sym, ap, _∙_}
 use Prim.Native.Nat.{_+_}
 use native.Mathlib.Omega.{arith}
 use borrow.Author.Needs.{needs}

@@ -1,5 +1,5 @@
 -- `card::reader::is_finished` meets its contract: the two tests are those of `finished`, on the sides' sums.
-use mathlib.Core.Path.{_≡_, sym, _∙_}
+use mathlib.Core.Path.{sym, _∙_}
 use native.Mathlib.Omega.{arith}
 use borrow.Author.Tests.{eq-eqb, ne-eqb}
 use Rattle.position.specs.Board.{xAll}

@@ -1,7 +1,6 @@
 -- `card::reader::played` meets its contract: the tests are the definition's, in their order, and the generator answers the rest.
 use mathlib.Core.Path.{_≡_, sym, _∙_}
-use mathlib.Core.Bool.{true, false}
-use Prim.Native.Nat.{_<_}
+use mathlib.Core.Bool.{false}
 use native.Mathlib.Omega.{arith}
 use borrow.Author.Needs.{needs}
 use Rattle.position.specs.Board.{checkers}

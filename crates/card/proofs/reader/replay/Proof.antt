@@ -1,5 +1,5 @@
 -- `card::reader::replay` meets its contract. The loop's invariant: the turns read so far, and what is left to answer.
-use mathlib.Core.Path.{_≡_, refl, sym, _∙_}
+use mathlib.Core.Path.{refl}
 use mathlib.Core.List.{List}
 use Prim.Native.Nat.{ℕ, _-_}
 use native.Mathlib.Omega.{arith}

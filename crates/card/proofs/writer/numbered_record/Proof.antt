@@ -1,11 +1,7 @@
 -- `card::writer::numbered_record` meets its contract: a number below 65536 has two bytes.
-use mathlib.Core.Path.{_≡_, refl}
-use Prim.Native.Nat.{_<_}
+use mathlib.Core.Path.{refl}
 use native.Mathlib.Omega.{arith}
 use borrow.Author.Needs.{needs}
-use Rattle.ints.specs.Answer.{carried}
-use Rattle.end_number.specs.Number.{numberTold}
-use Rattle.card.specs.Records.{RecordOf}
 use Rattle.card.proofs.writer.numbered_record.Statement.{statement}
 use Rattle.card.proofs.writer.numbered_record.Tie as tie
 

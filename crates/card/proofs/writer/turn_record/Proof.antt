@@ -1,9 +1,7 @@
 -- `card::writer::turn_record` meets its contract: the tests are the definition's, in their order.
 use mathlib.Core.Path.{_≡_, sym, ap, _∙_}
 use mathlib.Core.Bool.{false}
-use Prim.Native.Nat.{_<_}
 use borrow.Author.Needs.{needs}
-use Rattle.ints.specs.Answer.{carried}
 use Rattle.dice.specs.Dice.{byteAnswer}
 use Rattle.position.specs.Board.{checkers}
 use Rattle.card.specs.Read.{finished}

@@ -1,9 +1,6 @@
 -- `munchalep::game_card::card_number` meets its contract: each case has its number, and a small value or place fits above it.
-use Prim.Native.Nat.{_≤_}
 use native.Mathlib.Omega.{arith}
 use borrow.Author.Needs.{needs}
-use Rattle.ints.specs.Answer.{carried}
-use Rattle.card.specs.Answers.{cardTold}
 use Rattle.munchalep.proofs.game_card.card_number.Statement.{statement}
 use Rattle.munchalep.proofs.game_card.card_number.Tie as tie
 

@@ -1,10 +1,9 @@
 -- `munchalep::game_card::munchalep_card_begin` meets its contract: the number of what the crate `card` answers, and its bytes.
-use mathlib.Core.Path.{_≡_, ap, _∙_}
-use Prim.Native.Nat.{_≤_}
+use mathlib.Core.Path.{ap, _∙_}
 use native.Mathlib.Omega.{arith}
 use borrow.Author.Needs.{needs}
 use lib.ListN.{length}
-use Rattle.ints.specs.Answer.{packed, carried}
+use Rattle.ints.specs.Answer.{packed}
 use Rattle.position.specs.Board.{checkers}
 use Rattle.card.proofs.Carried.{begin-carries}
 use Rattle.munchalep.proofs.game_card.munchalep_card_begin.Statement.{statement}

@@ -1,5 +1,4 @@
 -- `munchalep::game_card::munchalep_card_position` meets its contract: it hands over what the crate `card` answers.
-use Prim.Native.Nat.{_≤_}
 use borrow.Author.Needs.{needs}
 use Rattle.position.specs.Board.{checkers}
 use Rattle.card.specs.Game.{turnsMost}

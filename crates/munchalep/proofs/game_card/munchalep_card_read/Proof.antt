@@ -1,9 +1,8 @@
 -- `munchalep::game_card::munchalep_card_read` meets its contract: the number of what the crate `card` answers.
-use mathlib.Core.Path.{_≡_, ap, _∙_}
-use Prim.Native.Nat.{_≤_}
+use mathlib.Core.Path.{ap, _∙_}
 use native.Mathlib.Omega.{arith}
 use borrow.Author.Needs.{needs}
-use Rattle.ints.specs.Answer.{packed, carried}
+use Rattle.ints.specs.Answer.{packed}
 use Rattle.position.specs.Board.{checkers}
 use Rattle.card.specs.Game.{turnsMost}
 use Rattle.card.proofs.Carried.{read-carries}

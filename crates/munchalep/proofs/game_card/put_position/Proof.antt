@@ -1,5 +1,5 @@
 -- `munchalep::game_card::put_position` meets its contract: the board is stored exactly where the number is 0.
-use mathlib.Core.Path.{_≡_, refl}
+use mathlib.Core.Path.{refl}
 use borrow.Author.Needs.{needs}
 use borrow.Author.Tests.{eq-eqb, ne-eqb}
 use Rattle.munchalep.specs.Lent.{after}
