@@ -9,8 +9,12 @@ use lib.Seq.{take-append-le, drop-append-le}
 use borrow.Author.Tests.{le-ltb}
 use Rattle.ints.specs.Answer.{Answer, value, refused}
 use Rattle.key.specs.Key.{boardOf}
+use Rattle.card.specs.Game.{Turn, Game}
+use Rattle.card.specs.Card.{cardOf}
 use Rattle.card.specs.Read.{startKey, startRecordRefusal, turnAt, turnRefusal, afterTurn, boardAfter, readFrom, readAnswer}
-use Rattle.card.proofs.Records.{refusalAt}
+use Rattle.card.proofs.Records.{refusalAt, read-over}
+use Rattle.card.proofs.Reading.{card-read}
+use Rattle.card.proofs.Longer.{length-card}
 use Rattle.card.proofs.Refusals.{ReadTo, in-start, in-turn, too-many, Tells, answer-tells, reads-on, read-exactly}
 
 -- ---- a record is judged by its own bytes
@@ -111,3 +115,15 @@ module _ (n m : ℕ) (c more : List ℕ) (k : ℕ) (whole : length c ≡ turnAt 
   reading-goes-on e =
       let s = read-exactly n m c k .0 e in
       reads-on n m (c ++ more) k (read-longer c more n k (omega arith) (s .read)) (s .few)
+
+-- ---- a card of as many turns as are allowed is read, and anything after it is one turn too many
+
+pub one-too-many : {n m : ℕ} → n ≤ 15 → {start : List ℤ} {turns : List Turn} → Game n m start turns → length turns ≡ m
+    → (more : List ℕ) → 0 < length more → readAnswer n m (cardOf start turns ++ more) ≡ refused 22 (turnAt m)
+one-too-many {n} {m} few {start} {turns} g full more some =
+    let card = cardOf start turns in
+    let whole : length card ≡ turnAt m = length-card start turns ∙ ap turnAt full in
+    let none-left : m - m ≡ 0 = omega arith in
+    reading-goes-on n m card more m whole (card-read few g ∙ ap value full)
+    ∙ ap (λ (left : ℕ). readFrom left (card ++ more) m) none-left
+    ∙ read-over (card ++ more) m (omega (arith, length-append card more))
