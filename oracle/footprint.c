@@ -16,10 +16,35 @@
 #define PAINT 0xA5
 #define BOARDS 1000
 
-enum entry { NOTHING, CHECK, SWITCH, STEP, RESULT, LIST, LIST_SHORT, COUNT, END, ENTRIES };
+enum entry {
+    NOTHING,
+    CHECK,
+    SWITCH,
+    STEP,
+    RESULT,
+    LIST,
+    LIST_SHORT,
+    COUNT,
+    END,
+    RECOVER,
+    KEY,
+    BOARD_OF_KEY,
+    CONTACT_INPUTS,
+    RACE_INPUTS,
+    CONTACT_INPUT,
+    RACE_INPUT,
+    CARD_BEGIN,
+    CARD_ADD,
+    CARD_READ,
+    CARD_POSITION,
+    ENTRIES
+};
 
 static const char *const names[ENTRIES] = {
-    "nothing", "check", "switch", "step", "result", "list", "list, too short", "count", "end",
+    "nothing",        "check",       "switch",        "step",       "result",     "list",
+    "list, too short", "count",      "end",           "recover",    "key",        "board_of_key",
+    "contact_inputs", "race_inputs", "contact_input", "race_input", "card_begin", "card_add",
+    "card_read",      "card_position",
 };
 
 static unsigned char stack[STACK];
@@ -31,6 +56,11 @@ static struct {
     enum entry entry;
     int8_t board[26], out[26];
     size_t die1, die2;
+    int8_t end[26], unswitched[26]; /* the roll's last end */
+    struct munchalep_step row[4];
+    uint8_t key[10];
+    float inputs[MUNCHALEP_CONTACT_INPUTS];
+    uint8_t card[17];
 } call;
 
 /* What an empty function takes, to be taken off: the frame of make_call() and a return address. */
@@ -51,8 +81,28 @@ static void make_call(void)
     case LIST_SHORT: munchalep_list(call.board, call.die1, call.die2, list, 26); break;
     case COUNT: munchalep_count(call.board, call.die1, call.die2); break;
     case END: munchalep_end(call.board, call.die1, call.die2, 5, call.out); break;
+    case RECOVER: munchalep_recover(call.board, call.unswitched, call.die1, call.die2, call.row, 4); break;
+    case KEY: munchalep_key(call.board, call.key); break;
+    case BOARD_OF_KEY: munchalep_board_of_key(call.key, call.out); break;
+    case CONTACT_INPUTS: munchalep_contact_inputs(call.board, call.inputs, MUNCHALEP_CONTACT_INPUTS); break;
+    case RACE_INPUTS: munchalep_race_inputs(call.board, call.inputs, MUNCHALEP_RACE_INPUTS); break;
+    case CONTACT_INPUT: munchalep_contact_input(call.board, 100, call.inputs); break;
+    case RACE_INPUT: munchalep_race_input(call.board, 100, call.inputs); break;
+    case CARD_BEGIN: munchalep_card_begin(call.board, call.card, sizeof call.card); break;
+    case CARD_ADD: munchalep_card_add(call.card, sizeof call.card, 12, call.die1, call.die2, call.end); break;
+    case CARD_READ: munchalep_card_read(call.card, sizeof call.card); break;
+    case CARD_POSITION: munchalep_card_position(call.card, sizeof call.card, 1, call.out); break;
     default: nothing(call.board);
     }
+}
+
+/* The last end of the roll, so that looking for its number passes all the others. */
+static void find_last_end(void)
+{
+    uint64_t count = munchalep_value_of(munchalep_count(call.board, call.die1, call.die2));
+
+    munchalep_end(call.board, call.die1, call.die2, count - 1, call.end);
+    munchalep_switch(call.end, call.unswitched);
 }
 
 /* The bytes of the stack that a call touched, counted from its top. */
@@ -122,13 +172,15 @@ int main(void)
         else
             random_board(call.board);
         for (call.die1 = 1; call.die1 <= 6; call.die1++)
-            for (call.die2 = 1; call.die2 <= 6; call.die2++)
+            for (call.die2 = 1; call.die2 <= 6; call.die2++) {
+                find_last_end();
                 for (entry = 0; entry < ENTRIES; entry++) {
                     size_t reached = depth((enum entry)entry);
 
                     if (reached > deepest[entry])
                         deepest[entry] = reached;
                 }
+            }
     }
     /* The return address of a call is its own, so it is counted. */
     for (entry = 1; entry < ENTRIES; entry++)

@@ -6,7 +6,7 @@ use native.Mathlib.Omega.{arith}
 use lib.IntN.{ℤ}
 use lib.ListN.{length, getD, take, drop, length-append, length-drop, List·getD-append}
 use lib.Seq.{take-append-le, drop-append-le}
-use borrow.Author.Tests.{le-ltb}
+use borrow.Author.Tests.{lt-ltb, le-ltb}
 use Rattle.ints.specs.Answer.{Answer, value, refused}
 use Rattle.key.specs.Key.{boardOf}
 use Rattle.card.specs.Game.{Turn, Game}
@@ -127,3 +127,21 @@ one-too-many {n} {m} few {start} {turns} g full more some =
     reading-goes-on n m card more m whole (card-read few g ∙ ap value full)
     ∙ ap (λ (left : ℕ). readFrom left (card ++ more) m) none-left
     ∙ read-over (card ++ more) m (omega (arith, length-append card more))
+
+-- bytes after one more than the most turns take change no answer, so a reader needs no more than these
+module _ (n m : ℕ) (c more : List ℕ) (long : turnAt m < length c) where
+  same-from : (left k : ℕ) → k + left ≡ m → readFrom left (c ++ more) k ≡ readFrom left c k
+  unfolding readFrom
+  same-from zero k e =
+      rw (lt-ltb (turnAt k) (length (c ++ more)) (omega (arith, length-append c more)), lt-ltb (turnAt k) (length c) (omega arith))
+  same-from (suc left) k e =
+      rw (
+        lt-ltb (turnAt k) (length (c ++ more)) (omega (arith, length-append c more)),
+        lt-ltb (turnAt k) (length c) (omega arith),
+        turn-refusal-own c more k (omega arith),
+        same-from left (suc k) (omega arith),
+      )
+
+  pub longer-same : readAnswer n m (c ++ more) ≡ readAnswer n m c
+  unfolding readAnswer
+  longer-same = rw (start-refusal-own c more n (omega arith), same-from m 0 (omega arith))
