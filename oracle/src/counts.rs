@@ -21,10 +21,15 @@ pub enum Entry {
     RaceInputs,
     ContactInput,
     RaceInput,
+    Recover,
+    CardBegin,
+    CardAdd,
+    CardRead,
+    CardPosition,
 }
 
 /// Their names, in the enum's order.
-const ENTRIES: [&str; 13] = [
+const ENTRIES: [&str; 18] = [
     "check",
     "switch",
     "step",
@@ -38,10 +43,18 @@ const ENTRIES: [&str; 13] = [
     "race_inputs",
     "contact_input",
     "race_input",
+    "recover",
+    "card_begin",
+    "card_add",
+    "card_read",
+    "card_position",
 ];
 
 const REFUSALS: usize = 37;
 const RESULTS: usize = 8;
+
+/// Steps of a play, from none to four.
+const STEPS: usize = 5;
 
 /// What was compared of one kind of input.
 #[derive(Clone, Copy)]
@@ -53,11 +66,19 @@ pub struct Counts {
     judged: [u64; ENTRIES.len()],
     /// What the entry `result` said, by its number.
     results: [u64; RESULTS],
+    /// Ends whose steps the entry `recover` told, by their number.
+    steps: [u64; STEPS],
     /// Boards with a roll whose whole list was compared, the ends of all of them, and of the one
     /// that has the most.
     rolls: u64,
     ends: u64,
     most_ends: u64,
+    /// Games whose card was read, the turns of all of them, and of the one that has the most; and
+    /// damaged cards.
+    games: u64,
+    turns: u64,
+    most_turns: u64,
+    damaged: u64,
 }
 
 impl Counts {
@@ -66,9 +87,14 @@ impl Counts {
         answers: [[0; REFUSALS]; ENTRIES.len()],
         judged: [0; ENTRIES.len()],
         results: [0; RESULTS],
+        steps: [0; STEPS],
         rolls: 0,
         ends: 0,
         most_ends: 0,
+        games: 0,
+        turns: 0,
+        most_turns: 0,
+        damaged: 0,
     };
 
     /// Counts one call.
@@ -79,6 +105,9 @@ impl Counts {
         if matches!(entry, Entry::Result) && refusal == 0 {
             self.results[value as usize] += 1;
         }
+        if matches!(entry, Entry::Recover) && refusal == 0 {
+            self.steps[value as usize] += 1;
+        }
     }
 
     /// Counts a board with a roll, and its ends.
@@ -86,6 +115,18 @@ impl Counts {
         self.rolls += 1;
         self.ends += ends;
         self.most_ends = self.most_ends.max(ends);
+    }
+
+    /// Counts a game whose card was read.
+    pub fn add_game(&mut self, turns: u64) {
+        self.games += 1;
+        self.turns += turns;
+        self.most_turns = self.most_turns.max(turns);
+    }
+
+    /// Counts a card that may be damaged.
+    pub fn add_damaged(&mut self) {
+        self.damaged += 1;
     }
 }
 
@@ -95,9 +136,14 @@ impl AddAssign<&Counts> for Counts {
         add_each(self.answers.as_flattened_mut(), other.answers.as_flattened());
         add_each(&mut self.judged, &other.judged);
         add_each(&mut self.results, &other.results);
+        add_each(&mut self.steps, &other.steps);
         self.rolls += other.rolls;
         self.ends += other.ends;
         self.most_ends = self.most_ends.max(other.most_ends);
+        self.games += other.games;
+        self.turns += other.turns;
+        self.most_turns = self.most_turns.max(other.most_turns);
+        self.damaged += other.damaged;
     }
 }
 
@@ -119,7 +165,13 @@ pub fn tables(counts: &[Counts]) -> String {
         tables.push(rolls_by_kind(&named));
     }
     if total.results.iter().any(|&boards| boards > 0) {
-        tables.push(results(&total));
+        tables.push(by_number("result", &total.results));
+    }
+    if total.steps.iter().any(|&ends| ends > 0) {
+        tables.push(by_number("steps", &total.steps));
+    }
+    if total.games > 0 {
+        tables.push(games_by_kind(&named));
     }
     tables.join("\n")
 }
@@ -160,9 +212,19 @@ fn rolls_by_kind(named: &[(&str, &Counts)]) -> String {
     table
 }
 
-fn results(total: &Counts) -> String {
-    let results = total.results.iter().enumerate();
-    results.map(|(number, &boards)| row(&format!("result {number}"), &[grouped(boards)])).collect()
+fn games_by_kind(named: &[(&str, &Counts)]) -> String {
+    let mut table = row("kind of input", &["games", "turns", "most turns", "damaged cards"]);
+    for (name, counts) in named {
+        let Counts { games, turns, most_turns, damaged, .. } = **counts;
+        table += &row(name, &[games, turns, most_turns, damaged].map(grouped));
+    }
+    table
+}
+
+/// What was answered, a line for each number.
+fn by_number(what: &str, answers: &[u64]) -> String {
+    let lines = answers.iter().enumerate();
+    lines.map(|(number, &times)| row(&format!("{what} {number}"), &[grouped(times)])).collect()
 }
 
 /// One line of a table.

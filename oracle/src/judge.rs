@@ -7,7 +7,8 @@ use base64::engine::general_purpose::STANDARD_NO_PAD;
 use engine::dice::Dice;
 use engine::inputs::{ContactInputsGen, InputsGen, RaceInputsGen};
 use engine::position::{GamePhase, GameResult, OngoingPhase, Position};
-use munchalep::{Board, Key};
+use logic::bg_move::BgMove;
+use munchalep::{Board, Key, Step};
 
 /// What wildbg makes of a board.
 pub enum Judge {
@@ -66,6 +67,17 @@ impl Judge {
         })
     }
 
+    /// The steps to an end, told before switching. wildbg decides on legal ends of a roll.
+    pub fn steps(&self, end: &Board, dice: (usize, usize)) -> Option<Result<Vec<Step>, u8>> {
+        self.answer(|position| {
+            let end = Position::try_from(*end).expect("a legal end is accepted");
+            let dice = Dice::try_from(dice).expect("a legal end has a roll");
+            let details = BgMove::new(position, &end, &dice).into_details();
+            let step = |from: usize, to: usize| Step { from: from as u8, to: to as u8 };
+            Some(Ok(details.iter().map(|detail| step(detail.from(), detail.to())).collect()))
+        })
+    }
+
     pub fn key(&self) -> Option<Result<Key, u8>> {
         self.answer(|position| Some(Ok(key_of_id(&position.position_id()))))
     }
@@ -91,6 +103,12 @@ impl Judge {
             Judge::Accepts(position) => of_position(position),
         }
     }
+}
+
+/// The ends of a roll in order, sides switched, on an unfinished accepted board.
+pub fn ends_of(board: &Board, dice: (usize, usize)) -> Vec<Board> {
+    let ends = Judge::of(board).ends(dice).expect("wildbg decides on unfinished boards");
+    ends.expect("the board is accepted").into_iter().map(Board::from).collect()
 }
 
 /// A slice that wildbg fills. What it left out would stay a NaN, which no input is.

@@ -1,14 +1,15 @@
 //! Holds Munchalep's C interface to wildbg's Rust and to document 01's words. `oracle/run` builds
 //! and starts it, and says how it is used.
 //!
-//! A capability has a module of its own (`position`, `moves`, `key`, `inputs`), with its plain form
-//! in `plain` and wildbg's in `judge`; `counts` names its entries, `search` compares it and `store`
+//! A capability has a module of its own (`position`, `moves`, `key`, `inputs`, `recovery`, `card`),
+//! with its plain form in `plain` and wildbg's in `judge`; `counts` names its entries, `search` compares it and `store`
 //! stores its answers.
 
 #![forbid(unsafe_code)]
 
 mod answer;
 mod boards;
+mod card;
 mod counts;
 mod dice;
 mod difference;
@@ -20,6 +21,7 @@ mod moves;
 mod options;
 mod plain;
 mod position;
+mod recovery;
 mod rng;
 mod search;
 mod smaller;
@@ -40,7 +42,11 @@ fn main() -> ExitCode {
             return ExitCode::from(WRONG_USE);
         }
     };
-    let done = if options.stores.is_empty() { search::run(&options) } else { store::run(&options) };
+    let done = match &options.program {
+        Some(program) => card::program::run(program, &options),
+        None if options.stores.is_empty() => search::run(&options),
+        None => store::run(&options),
+    };
     match done {
         Ok(report) => {
             println!("{report}");

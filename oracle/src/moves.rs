@@ -120,7 +120,7 @@ fn limit_calls(ends: usize) -> Vec<Call> {
 }
 
 /// Two dice of which one or both are outside 1 to 6.
-fn no_roll(rng: &mut Rng) -> (usize, usize) {
+pub fn no_roll(rng: &mut Rng) -> (usize, usize) {
     let (no_die, other, die) = (rng.pick(&NO_DICE), rng.pick(&NO_DICE), rng.between(1, 6));
     rng.pick(&[(no_die, die), (die, no_die), (no_die, other)])
 }

@@ -16,6 +16,8 @@ pub struct Options {
     pub groups: Vec<Group>,
     /// What is to be stored, and where.
     pub stores: Vec<(Maker, PathBuf)>,
+    /// The card program, where it is to be compared.
+    pub program: Option<PathBuf>,
 }
 
 impl Options {
@@ -27,6 +29,7 @@ impl Options {
             threads: thread::available_parallelism().map_or(1, NonZero::get),
             groups: GROUPS.map(|(_, group)| group).into(),
             stores: Vec::new(),
+            program: None,
         };
         while let Some(name) = words.next() {
             let value = words.next().ok_or(format!("{name} has no value"))?;
@@ -35,6 +38,7 @@ impl Options {
                 "--seconds" => options.seconds = number(&name, &value)?,
                 "--threads" => options.threads = number::<NonZero<usize>>(&name, &value)?.get(),
                 "--only" => options.groups = vec![group(&value)?],
+                "--program" => options.program = Some(value.into()),
                 _ => options.stores.push((maker(&name)?, value.into())),
             }
         }

@@ -1,13 +1,16 @@
 //! Document 01's words as plain code, written from them and not from wildbg: the second judge
 //! inside wildbg's domain, and the only one outside it. A refusal is an `Err` with its number.
 
+pub mod card;
 mod ends;
 mod inputs;
 pub mod key;
+mod recovery;
 
-pub use ends::{ends, play};
+pub use ends::{ends, ends_of, play, started};
 pub use inputs::{Net, inputs};
 pub use key::{board_of_key, key};
+pub use recovery::{is_play, some_play, steps_of_roll};
 
 use crate::boards::board;
 use munchalep::Board;
@@ -137,6 +140,16 @@ pub fn dice_byte(dice: (usize, usize)) -> Result<u8, u8> {
         return Err(7);
     }
     Ok((large * 16 + small) as u8)
+}
+
+/// The dice of a dice byte, the larger one first.
+pub fn dice_of(byte: u8) -> (usize, usize) {
+    (usize::from(byte / 16), usize::from(byte % 16))
+}
+
+/// The dice of the 21 rolls, in their order.
+pub fn all_dice() -> Vec<(usize, usize)> {
+    rolls().into_iter().map(|(_, byte)| dice_of(byte)).collect()
 }
 
 /// "21 rolls: for each small die, its double (weight 1), then its mixed rolls upward (weight 2)":

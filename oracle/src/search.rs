@@ -4,7 +4,7 @@ use crate::boards::{Boards, kinds};
 use crate::counts::{Counts, grouped, tables};
 use crate::difference::Difference;
 use crate::options::Options;
-use crate::{inputs, key, moves, position};
+use crate::{card, inputs, key, moves, position, recovery};
 use munchalep::Board;
 use std::sync::atomic::{AtomicBool, AtomicU64, AtomicUsize, Ordering::Relaxed};
 use std::sync::{Mutex, OnceLock};
@@ -18,14 +18,18 @@ pub enum Group {
     Moves,
     Key,
     Inputs,
+    Recovery,
+    Card,
 }
 
 /// All groups, by the names that `--only` takes.
-pub const GROUPS: [(&str, Group); 4] = [
+pub const GROUPS: [(&str, Group); 6] = [
     ("position", Group::Position),
     ("moves", Group::Moves),
     ("key", Group::Key),
     ("inputs", Group::Inputs),
+    ("recovery", Group::Recovery),
+    ("card", Group::Card),
 ];
 
 /// Compares the entries of some groups, with memory of its own.
@@ -41,6 +45,8 @@ impl Comparison<'_> {
             Group::Moves => self.lists.compare(board, counts),
             Group::Key => key::compare(board, counts),
             Group::Inputs => inputs::compare(board, counts),
+            Group::Recovery => recovery::compare(board, counts),
+            Group::Card => card::compare(board, counts),
         })
     }
 }
@@ -52,6 +58,8 @@ fn compare_document(groups: &[Group]) -> Result<(), Difference> {
         Group::Moves => moves::document::compare(),
         Group::Key => key::document::compare(),
         Group::Inputs => inputs::document::compare(),
+        Group::Recovery => recovery::document::compare(),
+        Group::Card => card::document::compare(),
     })
 }
 

@@ -2,14 +2,14 @@
 
 use crate::difference::Difference;
 use crate::options::Options;
-use crate::{dice, inputs, key, moves, position};
+use crate::{card, dice, inputs, key, moves, position, recovery};
 use std::fs;
 
 /// Makes the data of a seed.
 pub type Maker = fn(u64) -> Result<Vec<u8>, Difference>;
 
 /// The options that store data, each with its maker.
-pub const STORES: [(&str, Maker); 7] = [
+pub const STORES: [(&str, Maker); 10] = [
     ("--store", position::stored::records),
     ("--store-dice", |_| dice::stored()),
     ("--store-moves", moves::stored::records),
@@ -17,6 +17,9 @@ pub const STORES: [(&str, Maker); 7] = [
     ("--store-key", key::stored::records),
     ("--store-gnubg", key::gnubg::records),
     ("--store-inputs", inputs::stored::records),
+    ("--store-recovery", recovery::stored::records),
+    ("--store-card", card::stored::records),
+    ("--store-game", card::stored::game),
 ];
 
 /// Writes the files that are asked for. Answers what it wrote, or what failed.

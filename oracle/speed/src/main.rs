@@ -1,10 +1,13 @@
-//! How long the library and wildbg take for the ends of a roll and for the inputs of the nets.
-//! `oracle/bench` builds and starts it, and says how it is used.
+//! How long the library and wildbg take for the ends of a roll, for the inputs of the nets and for
+//! the steps to an end; and how long the library takes to read a card. `oracle/bench` builds and
+//! starts it, and says how it is used.
 
 #![forbid(unsafe_code)]
 
+mod card;
 mod corpus;
 mod inputs;
+mod recovery;
 #[path = "../../src/rng.rs"]
 #[allow(dead_code, reason = "the comparison uses all of it")]
 mod rng;
@@ -15,6 +18,7 @@ use engine::position::Position;
 use inputs::NETS;
 use munchalep::Board;
 use routines::Routines;
+use std::hint::black_box;
 use std::time::{Duration, Instant};
 
 const SEED: u64 = 1;
@@ -30,18 +34,24 @@ fn main() {
     print_ends(&boards);
     println!();
     print_inputs(&boards);
+    println!();
+    print_recovery(&boards);
+    println!();
+    print_card();
+}
+
+/// The boards with all rolls, with doubles and with mixed rolls.
+fn selections(boards: &[Position]) -> [Selection; 3] {
+    let all = corpus::turns(boards);
+    let (doubles, mixed) = all.iter().copied().partition(Turn::is_double);
+    [("all 21 rolls", all), ("doubles", doubles), ("mixed rolls", mixed)]
 }
 
 /// The table of the ends of a roll.
 fn print_ends(boards: &[Position]) {
-    let all = corpus::turns(boards);
-    let (doubles, mixed) = all.iter().copied().partition(Turn::is_double);
-    let selections: [Selection; 3] =
-        [("all 21 rolls", all), ("doubles", doubles), ("mixed rolls", mixed)];
-
     println!("| rolls | calls | ends a call | most ends | {} |", routines::NAMES.join(" | "));
     println!("|---|---|---|---|{}", "---|".repeat(routines::NAMES.len()));
-    for (name, turns) in selections {
+    for (name, turns) in selections(boards) {
         let mut routines = Routines::new();
         let (ends, most) = (routines.ends(&turns), routines.most_ends(&turns));
         let shortest =
@@ -64,6 +74,30 @@ fn print_inputs(boards: &[Position]) {
         let shortest = shortest_runs(inputs::NAMES, calls, |routine| net.run(routine, &boards));
         println!("| {} | {calls} | {} | {} |", net.name, net.inputs, times(shortest, calls));
     }
+}
+
+/// The table of the steps to an end.
+fn print_recovery(boards: &[Position]) {
+    println!("| rolls | calls | steps a call | {} |", recovery::NAMES.join(" | "));
+    println!("|---|---|---|{}", "---|".repeat(recovery::NAMES.len()));
+    for (name, turns) in selections(boards) {
+        let played = recovery::played(&turns, SEED);
+        let (calls, steps) = (played.len(), recovery::run(0, &played));
+        let shortest =
+            shortest_runs(recovery::NAMES, steps, |routine| recovery::run(routine, &played));
+        let steps_a_call = steps as f64 / calls as f64;
+        println!("| {name} | {calls} | {steps_a_call:.2} | {} |", times(shortest, calls));
+    }
+}
+
+/// The table of reading a card.
+fn print_card() {
+    let (card, turns) = (card::longest(SEED), card::TURNS);
+    let read = |_| munchalep::card_read(black_box(&card)).expect("the card is read");
+    let [shortest] = shortest_runs(["munchalep"], turns, read);
+    let (micros, nanos) = (shortest.as_micros(), shortest.as_nanos() / turns as u128);
+    println!("| turns | bytes | a card | a turn |\n|---|---|---|---|");
+    println!("| {turns} | {} | {micros} µs | {nanos} ns |", card.len());
 }
 
 /// The cells of some routines, wildbg's first: the time of each, and how many times as fast as

@@ -37,8 +37,7 @@ impl Lists {
         let judge = Judge::of(board);
         let mut rng = Rng::of_board(board);
         let limits = rng.below(21 * LIMITS);
-        for (roll, &(_, byte)) in plain::rolls().iter().enumerate() {
-            let (large, small) = (usize::from(byte / 16), usize::from(byte % 16));
+        for (roll, (large, small)) in plain::all_dice().into_iter().enumerate() {
             let dice = if rng.once_in(2) { (large, small) } else { (small, large) };
             self.compare_roll(&judge, board, dice, counts)?;
             if roll == limits {

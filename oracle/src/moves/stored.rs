@@ -103,8 +103,7 @@ fn inputs(seed: u64, rng: &mut Rng) -> Vec<(Board, (usize, usize))> {
 
 /// The dice of the 21 rolls, in the document's order, and then turned round.
 fn either_order() -> Vec<(usize, usize)> {
-    let dice = |(_, byte): (u32, u8)| (usize::from(byte / 16), usize::from(byte % 16));
-    let rolls: Vec<_> = plain::rolls().into_iter().map(dice).collect();
+    let rolls = plain::all_dice();
     rolls.iter().copied().chain(rolls.iter().map(|&(large, small)| (small, large))).collect()
 }
 

@@ -10,14 +10,20 @@ use std::ops::RangeInclusive;
 const ORIGINS: RangeInclusive<usize> = 1..=X_BAR;
 const POINTS: RangeInclusive<usize> = 1..=24;
 
-/// The refusals of a call that asks for a play. Order: 1 to 4, 6, 5, 7.
-pub fn play(board: &Board, dice: (usize, usize)) -> Result<(), u8> {
+/// The refusals of a board from which a play is asked or a card starts. Order: 1 to 4, 6, 5.
+pub fn started(board: &Board) -> Result<(), u8> {
     check(board)?;
     match (x_checkers(board), o_checkers(board)) {
         (0, 0) => Err(6),
         (0, _) | (_, 0) => Err(5),
-        _ => dice_byte(dice).map(|_| ()),
+        _ => Ok(()),
     }
+}
+
+/// The refusals of a call that asks for a play. Order: 1 to 4, 6, 5, 7.
+pub fn play(board: &Board, dice: (usize, usize)) -> Result<(), u8> {
+    started(board)?;
+    dice_byte(dice).map(|_| ())
 }
 
 /// The ends of a roll in the list's order, sides switched.
@@ -30,6 +36,11 @@ pub fn ends(board: &Board, dice: (usize, usize)) -> Result<Vec<Board>, u8> {
     assert!(is_legal_ends, "the list is not the legal ends, each once: {board:?}, {dice:?}");
     let switched = |end| switch(end).expect("an end is an accepted board");
     Ok(listed.iter().map(switched).collect())
+}
+
+/// The same where a play is not refused.
+pub fn ends_of(board: &Board, dice: (usize, usize)) -> Vec<Board> {
+    ends(board, dice).expect("a play is not refused")
 }
 
 /// The legal ends, by plays alone: a play uses as many dice as can be used, the larger one where

@@ -1,0 +1,52 @@
+-- `replay_card::copy_turns` reads and writes within bounds, and keeps the buffer's length.
+use mathlib.Core.Path.{_≡_}
+use Prim.Native.Nat.{_-_}
+use lib.ListN.{length}
+use borrow.Author.Needs.{needs}
+use Rattle.replay_card.proofs.copy_turns.Statement.{statement}
+use Rattle.replay_card.proofs.copy_turns.Tie as tie
+
+abbrev Inv-loop : tie.InvT-loop
+Inv-loop card end buffer₀ i₀ buffer i = length buffer ≡ length buffer₀
+
+abbrev μ-loop : tie.MeasureT-loop
+μ-loop card end buffer₀ i₀ buffer i = end - i
+
+loop-holds : tie.Need-loop-holds Inv-loop μ-loop
+loop-holds c = search needs
+
+shared-slice-read-buffer : tie.Need-shared-slice-read-buffer Inv-loop μ-loop
+shared-slice-read-buffer c = search needs
+
+slice-write-buffer : tie.Need-slice-write-buffer Inv-loop μ-loop
+slice-write-buffer c = search needs
+
+add-i : tie.Need-add-i Inv-loop μ-loop
+add-i c = search needs
+
+loop-less : tie.Need-loop-less Inv-loop μ-loop
+loop-less c = search needs
+
+loop-again : tie.Need-loop-again Inv-loop μ-loop
+loop-again c = search needs
+
+same-length : tie.Need-same-length Inv-loop μ-loop
+same-length c = search needs
+
+returns : tie.Need-returns Inv-loop μ-loop
+returns c = search needs
+
+pub copy-turns-spec : {M : Type 1} → statement M
+copy-turns-spec =
+    tie.close
+    (tie.spec
+    Inv-loop
+    μ-loop
+    loop-holds
+    shared-slice-read-buffer
+    slice-write-buffer
+    add-i
+    loop-less
+    loop-again
+    same-length
+    returns)
