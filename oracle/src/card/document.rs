@@ -83,6 +83,8 @@ fn readings() -> Vec<Fact> {
         refused(&with(&[(13, 0x54), (14, 0)]), Call::Read, 24, 12),
         refused(&finished, Call::Read, 25, 17),
         refused(&finished[..21], Call::Read, 23, 17),
+        refused(&[&EXAMPLE[..], &[0x54, 0x54, 0, 0, 0]].concat(), Call::Read, 24, 17),
+        refused(&[&EXAMPLE[..], &[0x54, 0x55, 0, 0, 0]].concat(), Call::Read, 25, 17),
         refused(&no_roll, Call::Read, 26, 12),
         refused(&with(&[(15, 1)]), Call::Read, 11, 12),
         refused(&with(&[(16, 1)]), Call::Read, 11, 12),
