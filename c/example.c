@@ -1,9 +1,11 @@
 /*
- * A few calls of the C interface, as a firmware would make them.
+ * The C interface, as a firmware would call it: first a game of two turns, from the roll to the
+ * card that the players take home; then each kind of call by itself, refused ones too.
  */
 #include "munchalep.h"
 
 #include <stdio.h>
+#include <stdlib.h>
 #include <string.h>
 
 static const int8_t start[26] = {
@@ -42,6 +44,122 @@ static void print_answer(const char *call, uint64_t answer, const int8_t out[26]
     print_refusal(call, answer);
     printf("    out:");
     print_board(out);
+}
+
+/* Prints the ends that a list has, as the other side sees them. */
+static void print_ends(const uint8_t *list, uint64_t ends)
+{
+    uint64_t n;
+
+    for (n = 0; n < ends; n++) {
+        int8_t end[26];
+
+        memcpy(end, list + n * MUNCHALEP_END_BYTES, MUNCHALEP_END_BYTES);
+        printf("    end %u:", (unsigned)n);
+        print_board(end);
+    }
+}
+
+/* Prints the first places of a row of steps. */
+static void print_row(const struct munchalep_step *row, uint64_t steps)
+{
+    uint64_t n;
+
+    printf("    row:");
+    for (n = 0; n < steps; n++)
+        printf(" %u/%u", (unsigned)row[n].from, (unsigned)row[n].to);
+    printf("\n");
+}
+
+/* Prints bytes in hex. */
+static void print_bytes(const char *what, const uint8_t *bytes, uint64_t length)
+{
+    uint64_t i;
+
+    printf("    %s:", what);
+    for (i = 0; i < length; i++)
+        printf(" %02X", bytes[i]);
+    printf("\n");
+}
+
+/* The value of an answer where a refusal would be a fault of this example, and ends it. */
+static uint64_t accepted(const char *call, uint64_t answer)
+{
+    print_refusal(call, answer);
+    if (munchalep_refusal_of(answer) != MUNCHALEP_NOT_REFUSED)
+        exit(EXIT_FAILURE);
+    return munchalep_value_of(answer);
+}
+
+/* The first turn: the ends of 6-5 on the start board, and the steps behind the one played. */
+static void first_turn(int8_t end[26])
+{
+    uint8_t list[7 * MUNCHALEP_END_BYTES];
+    int8_t moved[26];
+    struct munchalep_step row[MUNCHALEP_MOST_STEPS];
+    uint64_t number;
+
+    number = accepted("start, list of 6-5", munchalep_list(start, 6, 5, list, sizeof list));
+    print_ends(list, number);
+    memcpy(end, list + 6 * MUNCHALEP_END_BYTES, MUNCHALEP_END_BYTES);
+    /* A list shows ends as the other side sees them. Steps are asked for as the mover sees both. */
+    accepted("end 6, switch", munchalep_switch(end, moved));
+    number = accepted("start, steps of 6-5 to it",
+                      munchalep_recover(start, moved, 6, 5, row, MUNCHALEP_MOST_STEPS));
+    print_row(row, number);
+}
+
+/*
+ * The second turn, 3-1 by the other side. Here the board's sensors show where the checkers stand,
+ * seen from the mover, so the sides are switched before it goes to the card.
+ */
+static void second_turn(const int8_t board[26], int8_t end[26])
+{
+    int8_t moved[26];
+
+    memcpy(moved, board, sizeof moved);
+    moved[8] -= 1;
+    moved[6] -= 1;
+    moved[5] += 2;
+    accepted("end 6 with 8/5 6/5, switch", munchalep_switch(moved, end));
+}
+
+/* What a card tells, whole and without its last byte. */
+static void read_card(const uint8_t *card, size_t length)
+{
+    int8_t out[26] = {0};
+    uint64_t answer, turns = accepted("card, read", munchalep_card_read(card, length));
+
+    printf("    turns: %u\n", (unsigned)turns);
+    print_answer("card, position 1", munchalep_card_position(card, length, 1, out), out);
+    answer = munchalep_card_read(card, length - 1);
+    print_refusal("card without its last byte, read", answer);
+    /* A refusal of reading has the first byte of the refused record above its number. */
+    printf("    at byte: %u\n", (unsigned)munchalep_value_of(answer));
+}
+
+static void game(void)
+{
+    static uint8_t card[MUNCHALEP_CARD_BYTES];
+    uint8_t key[MUNCHALEP_KEY_BYTES];
+    int8_t first[26], second[26];
+    size_t length;
+
+    printf("start:");
+    print_board(start);
+    first_turn(first);
+    accepted("end 6, key", munchalep_key(first, key));
+    print_bytes("key", key, MUNCHALEP_KEY_BYTES);
+    second_turn(first, second);
+
+    /* Each call answers the card's length, which the next one is given. */
+    length = accepted("start, card", munchalep_card_begin(start, card, sizeof card));
+    length = accepted("card, 6-5 added",
+                      munchalep_card_add(card, sizeof card, length, 6, 5, first));
+    length = accepted("card, 3-1 added",
+                      munchalep_card_add(card, sizeof card, length, 3, 1, second));
+    print_bytes("card", card, length);
+    read_card(card, length);
 }
 
 static void check(void)
@@ -83,20 +201,6 @@ static void result(void)
     print_refusal("empty board, result", munchalep_result(empty));
 }
 
-/* Prints the ends that a list has, as the other side sees them. */
-static void print_ends(const uint8_t *list, uint64_t ends)
-{
-    uint64_t n;
-
-    for (n = 0; n < ends; n++) {
-        int8_t end[26];
-
-        memcpy(end, list + n * MUNCHALEP_END_BYTES, MUNCHALEP_END_BYTES);
-        printf("    end %u:", (unsigned)n);
-        print_board(end);
-    }
-}
-
 static void ends(void)
 {
     int8_t lone[26] = {0}, out[26] = {0};
@@ -122,17 +226,6 @@ static void ends(void)
     print_ends(list, 2);
 }
 
-/* Prints the first places of a row of steps. */
-static void print_row(const struct munchalep_step *row, uint64_t steps)
-{
-    uint64_t n;
-
-    printf("    row:");
-    for (n = 0; n < steps; n++)
-        printf(" %u/%u", (unsigned)row[n].from, (unsigned)row[n].to);
-    printf("\n");
-}
-
 static void recover(void)
 {
     int8_t lone[26] = {0}, end[26] = {0};
@@ -155,24 +248,13 @@ static void recover(void)
     print_row(row, 3);
 }
 
-/* Prints a key's bytes in hex. */
-static void print_key(const uint8_t key[MUNCHALEP_KEY_BYTES])
-{
-    int i;
-
-    printf("    key:");
-    for (i = 0; i < MUNCHALEP_KEY_BYTES; i++)
-        printf(" %02X", key[i]);
-    printf("\n");
-}
-
 static void keys(void)
 {
     int8_t out[26] = {0};
     uint8_t key[MUNCHALEP_KEY_BYTES] = {0};
 
     print_refusal("start, key", munchalep_key(start, key));
-    print_key(key);
+    print_bytes("key", key, MUNCHALEP_KEY_BYTES);
     print_answer("board of that key", munchalep_board_of_key(key, out), out);
     /* A 1 in the place of its last 0 is a sixteenth checker of x. `out` still has the start board. */
     key[9] |= 0x80;
@@ -212,6 +294,7 @@ static void inputs(void)
 
 int main(void)
 {
+    game();
     check();
     switch_sides();
     steps();
