@@ -9,7 +9,7 @@ use std::fs;
 pub type Maker = fn(u64) -> Result<Vec<u8>, Difference>;
 
 /// The options that store data, each with its maker.
-pub const STORES: [(&str, Maker); 10] = [
+pub const STORES: [(&str, Maker); 11] = [
     ("--store", position::stored::records),
     ("--store-dice", |_| dice::stored()),
     ("--store-moves", moves::stored::records),
@@ -20,6 +20,7 @@ pub const STORES: [(&str, Maker); 10] = [
     ("--store-recovery", recovery::stored::records),
     ("--store-card", card::stored::records),
     ("--store-game", card::stored::game),
+    ("--store-game-text", card::stored::game_text),
 ];
 
 /// Writes the files that are asked for. Answers what it wrote, or what failed.

@@ -19,9 +19,9 @@ use super::{Call, CardCase, damaged, document};
 use crate::answer::Lendable;
 use crate::boards::{kinds, sample};
 use crate::difference::{Case, Difference};
-use crate::plain;
 use crate::plain::card::{START, TURN};
 use crate::rng::Rng;
+use crate::{judge, plain};
 use munchalep::Board;
 use std::collections::{BTreeMap, HashSet};
 
@@ -70,6 +70,11 @@ pub fn game(seed: u64) -> Result<Vec<u8>, Difference> {
     agreed(&played.card, Call::Read)?;
     agreed(&played.card, Call::Position { number: played.game.turns.len() })?;
     Ok(played.card)
+}
+
+/// The text of that game's card, by document 01's words alone.
+pub fn game_text(seed: u64) -> Result<Vec<u8>, Difference> {
+    Ok(plain::card::text(&game(seed)?, judge::ends_of).into_bytes())
 }
 
 /// The document's cards; games from the start board; games from boards of every kind, or their
