@@ -3,6 +3,7 @@
 use crate::difference::Difference;
 use crate::options::Options;
 use crate::{card, dice, inputs, key, moves, position, recovery};
+use std::collections::BTreeMap;
 use std::fs;
 
 /// Makes the data of a seed.
@@ -33,4 +34,19 @@ pub fn run(options: &Options) -> Result<String, String> {
         wrote.push(format!("{name}: {} bytes, seed {}", data.len(), options.seed));
     }
     Ok(wrote.join("\n"))
+}
+
+/// Every answer, told by what was asked and the refusal, is among the stored ones, and none is rare.
+pub fn assert_every_answer(
+    stored: impl Iterator<Item = (u8, u8)>,
+    all: &[(u8, u8)],
+    of_each: usize,
+) {
+    let mut answers: BTreeMap<(u8, u8), usize> = BTreeMap::new();
+    for answer in stored {
+        *answers.entry(answer).or_default() += 1;
+    }
+    let met: Vec<_> = answers.keys().copied().collect();
+    assert_eq!(met, all, "an answer is missing");
+    assert!(answers.values().all(|&records| records >= of_each), "an answer is rare: {answers:?}");
 }

@@ -21,8 +21,9 @@ use crate::boards::{kinds, sample};
 use crate::difference::{Case, Difference};
 use crate::plain::{self, Net};
 use crate::rng::Rng;
+use crate::store;
 use munchalep::Board;
-use std::collections::{BTreeMap, HashSet};
+use std::collections::HashSet;
 
 /// Floats that a record has room for.
 const MOST: usize = 203;
@@ -79,14 +80,8 @@ fn boards(seed: u64) -> Vec<Board> {
 
 /// Every answer of both nets is there, and none is rare.
 fn assert_every_answer(records: &[Record]) {
-    let mut answers: BTreeMap<(u8, u8), usize> = BTreeMap::new();
-    for record in records {
-        *answers.entry((record[0], record[28])).or_default() += 1;
-    }
-    let met: Vec<_> = answers.keys().copied().collect();
-    let all = [0, 1].map(|net| [0, 1, 2, 3, 4, 13].map(|refusal| (net, refusal)));
-    assert_eq!(met, all.concat(), "an answer is missing");
-    assert!(answers.values().all(|&records| records >= OF_EACH), "an answer is rare: {answers:?}");
+    let all = [0, 1].map(|net| [0, 1, 2, 3, 4, 13].map(|refusal| (net, refusal))).concat();
+    store::assert_every_answer(records.iter().map(|r| (r[0], r[28])), &all, OF_EACH);
 }
 
 /// The record of filling `length` floats with the inputs of a board.

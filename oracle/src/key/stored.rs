@@ -15,8 +15,9 @@ use crate::boards::{kinds, sample};
 use crate::difference::{Case, Difference};
 use crate::plain;
 use crate::rng::Rng;
+use crate::store;
 use munchalep::{Board, Key};
-use std::collections::{BTreeMap, HashSet};
+use std::collections::HashSet;
 
 pub(super) type Record = [u8; 45];
 
@@ -80,15 +81,9 @@ fn keys(seed: u64) -> Vec<Key> {
 
 /// Every answer is there, and none is rare.
 fn assert_every_answer(records: &[Record]) {
-    let mut answers: BTreeMap<(u8, u8), usize> = BTreeMap::new();
-    for record in records {
-        *answers.entry((record[0], record[37])).or_default() += 1;
-    }
-    let met: Vec<_> = answers.keys().copied().collect();
     let [key, board_of_key] = [[0, 1, 2, 3, 4], [0, 15, 16, 17, 18]];
     let all = [key.map(|refusal| (0, refusal)), board_of_key.map(|refusal| (1, refusal))].concat();
-    assert_eq!(met, all, "an answer is missing");
-    assert!(answers.values().all(|&records| records >= OF_EACH), "an answer is rare: {answers:?}");
+    store::assert_every_answer(records.iter().map(|r| (r[0], r[37])), &all, OF_EACH);
 }
 
 /// The record of writing a board's key.
