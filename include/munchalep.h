@@ -131,9 +131,10 @@ uint64_t munchalep_result(const int8_t board[26]);
 /*
  * The ends of a roll, to `list`: every board that x may leave, once, as the
  * other side sees it (sides switched), 26 bytes an end, two's complement. Where
- * nothing can be played there is one end, the board itself, switched. The dice
- * may be given in either order. The value is the number of ends; bytes after
- * the last end stay as they were. Refuses 1, 2, 3, 4, 6, 5, 7, 10.
+ * nothing can be played there is one end, the board itself, switched. Here and
+ * below the two dice may be given in either order. The value is the number of
+ * ends; bytes after the last end stay as they were. Refuses 1, 2, 3, 4, 6, 5, 7,
+ * 10.
  *
  * `length` is the number of bytes lent. A list under 26 bytes an end is refused
  * by 10, and then the value is the number of ends all the same. With room for
@@ -198,6 +199,11 @@ uint64_t munchalep_board_of_key(const uint8_t key[10], int8_t out[26]);
  * is the number of floats lent and must be exactly MUNCHALEP_CONTACT_INPUTS, or
  * MUNCHALEP_RACE_INPUTS. Any accepted board may be given to either, finished and
  * empty ones too. Refuses 1, 2, 3, 4, 13. The value is 0.
+ *
+ * First come x's checkers off and o's, then four values a point. Contact: x's
+ * bar, x on 1 to 24, o on 0 to 24. Race: x on 1 to 23, o on 2 to 24. The four are
+ * 1, 0, 0, 0 for one checker of the side, 0, 1, 0, 0 for two, and from three on
+ * 0, 0, 1 and the count less three; all 0 where it has none.
  */
 uint64_t munchalep_contact_inputs(const int8_t board[26], float *inputs, size_t length);
 uint64_t munchalep_race_inputs(const int8_t board[26], float *inputs, size_t length);

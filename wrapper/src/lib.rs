@@ -37,3 +37,8 @@ pub use moves::{END_BYTES, MOST_ENDS, count, end, list};
 pub use position::{Board, Outcome, check, result, step, switch};
 pub use recover::{MOST_STEPS, Step, recover};
 pub use refusal::Refusal;
+
+/// The example of the README, compiled and run with the tests.
+#[cfg(doctest)]
+#[doc = include_str!("../../README.md")]
+struct Readme;
