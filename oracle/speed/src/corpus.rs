@@ -1,5 +1,5 @@
-//! The boards and rolls that are measured: games from the start board, each end as likely as any
-//! other.
+//! The boards and rolls that are measured: of games from the start board, each end as likely as any
+//! other, and boards on which a roll has more ends than in games.
 
 use crate::rng::Rng;
 use engine::dice::{ALL_21, Dice};
@@ -19,6 +19,25 @@ impl Turn {
     pub fn is_double(&self) -> bool {
         self.dice.0 == self.dice.1
     }
+
+    /// The ends in order, sides switched.
+    pub fn ends(&self) -> Vec<Position> {
+        self.position.all_positions_after_moving(&self.roll)
+    }
+}
+
+/// A turn and an end of it: its number, and the end told before switching, for either side to
+/// measure.
+pub struct Played {
+    pub turn: Turn,
+    pub number: usize,
+    pub position: Position,
+    pub board: Board,
+}
+
+/// The position of a board that wildbg accepts.
+pub fn judged(board: &Board) -> Position {
+    Position::try_from(*board).expect("an accepted board")
 }
 
 /// The first `number` unfinished boards of games that a seed decides.
@@ -36,6 +55,30 @@ pub fn boards(seed: u64, number: usize) -> Vec<Position> {
     boards
 }
 
+/// The points of x on the board with the most ends that was found: double 1, 2,226 ends.
+const MOST_FOUND: [usize; 15] = [24, 22, 21, 19, 18, 16, 15, 13, 12, 10, 9, 7, 6, 4, 3];
+
+/// Boards with many ends: the one with the most that was found, and `number` that a seed decides.
+pub fn spread_boards(seed: u64, number: usize) -> Vec<Position> {
+    let mut rng = Rng::new(seed, 0);
+    let others = (0..number).map(|_| spread(some_points(&mut rng)));
+    std::iter::once(spread(MOST_FOUND)).chain(others).collect()
+}
+
+/// The board with a checker of x on each of the points, and one of o on its bar.
+fn spread(points: [usize; 15]) -> Position {
+    let mut board: Board = [0; 26];
+    board[0] = -1;
+    points.into_iter().for_each(|point| board[point] = 1);
+    judged(&board)
+}
+
+/// Fifteen points, any as likely as others.
+fn some_points(rng: &mut Rng) -> [usize; 15] {
+    let mut free: Vec<usize> = (1..=24).collect();
+    std::array::from_fn(|_| free.swap_remove(rng.below(free.len())))
+}
+
 /// Every board with each of the 21 rolls.
 pub fn turns(boards: &[Position]) -> Vec<Turn> {
     let turn = |&position: &Position, roll: Dice| {
@@ -47,4 +90,16 @@ pub fn turns(boards: &[Position]) -> Vec<Turn> {
     };
     let rolls = |position| ALL_21.iter().map(move |&(roll, _)| turn(position, roll));
     boards.iter().flat_map(rolls).collect()
+}
+
+/// Each turn with one of its ends, which a seed decides.
+pub fn played(turns: &[Turn], seed: u64) -> Vec<Played> {
+    let mut rng = Rng::new(seed, 0);
+    let mut play = |&turn: &Turn| {
+        let ends = turn.ends();
+        let number = rng.below(ends.len());
+        let position = ends[number].sides_switched();
+        Played { turn, number, position, board: position.into() }
+    };
+    turns.iter().map(&mut play).collect()
 }

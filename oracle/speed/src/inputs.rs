@@ -1,6 +1,7 @@
 //! The inputs of the nets: a slice that is lent again and again and filled with those of each
 //! board.
 
+use crate::corpus::judged;
 use engine::inputs::{ContactInputsGen, InputsGen, RaceInputsGen};
 use engine::position::Position;
 use munchalep::{Board, CONTACT_INPUTS, RACE_INPUTS, raw};
@@ -56,9 +57,4 @@ impl Net {
             (self.munchalep)(board, &mut other) == 0 && one == other
         })
     }
-}
-
-/// The position of a board that wildbg accepts.
-fn judged(board: &Board) -> Position {
-    Position::try_from(*board).expect("a board of a game")
 }

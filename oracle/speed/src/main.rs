@@ -1,43 +1,55 @@
-//! How long the library and wildbg take for the ends of a roll, for the inputs of the nets and for
-//! the steps to an end; and how long the library takes to read a card. `oracle/bench` builds and
-//! starts it, and says how it is used.
+//! How long the library and wildbg take for the ends of a roll, all of them or one by its number,
+//! for the inputs of the nets, for keys and for the steps to an end; how long the library takes for
+//! a card; and how both grow with the ends of a roll and the turns of a card. `oracle/bench` builds
+//! and starts it, and says how it is used.
 
 #![forbid(unsafe_code)]
 
 mod card;
 mod corpus;
+mod growth;
 mod inputs;
+mod key;
+mod numbered;
 mod recovery;
 #[path = "../../src/rng.rs"]
 #[allow(dead_code, reason = "the comparison uses all of it")]
 mod rng;
 mod routines;
+mod timing;
 
+use card::Card;
 use corpus::Turn;
 use engine::position::Position;
 use inputs::NETS;
+use key::Keyed;
 use munchalep::Board;
 use routines::Routines;
-use std::hint::black_box;
-use std::time::{Duration, Instant};
+use timing::{RUNS, beside_wildbg, nanos};
 
 const SEED: u64 = 1;
 const BOARDS: usize = 10_000;
-const RUNS: usize = 20;
+const SPREAD_BOARDS: usize = 2_000;
 
 /// A selection of turns, by name.
 type Selection = (&'static str, Vec<Turn>);
 
 fn main() {
     let boards = corpus::boards(SEED, BOARDS);
-    println!("{BOARDS} boards of random play, seed {SEED}, {RUNS} runs, the shortest of each\n");
+    println!("{BOARDS} boards of random play, seed {SEED}, {RUNS} runs, the shortest of each");
     print_ends(&boards);
-    println!();
+    print_numbered(&boards);
     print_inputs(&boards);
-    println!();
+    print_keys(&boards);
     print_recovery(&boards);
-    println!();
-    print_card();
+    print_growth(&boards);
+    print_cards();
+}
+
+/// Prints a table's title, and the names of its columns: those of the rows and those of routines.
+fn print_head(title: &str, columns: &[&str], routines: &[&str]) {
+    let columns = [columns, routines].concat();
+    println!("\n{title}\n\n| {} |\n|{}", columns.join(" | "), "---|".repeat(columns.len()));
 }
 
 /// The boards with all rolls, with doubles and with mixed rolls.
@@ -47,81 +59,89 @@ fn selections(boards: &[Position]) -> [Selection; 3] {
     [("all 21 rolls", all), ("doubles", doubles), ("mixed rolls", mixed)]
 }
 
-/// The table of the ends of a roll.
 fn print_ends(boards: &[Position]) {
-    println!("| rolls | calls | ends a call | most ends | {} |", routines::NAMES.join(" | "));
-    println!("|---|---|---|---|{}", "---|".repeat(routines::NAMES.len()));
+    let columns = ["rolls", "calls", "ends a call", "most ends"];
+    print_head("The ends of a roll", &columns, &routines::NAMES);
     for (name, turns) in selections(boards) {
         let mut routines = Routines::new();
         let (ends, most) = (routines.ends(&turns), routines.most_ends(&turns));
-        let shortest =
-            shortest_runs(routines::NAMES, ends, |routine| routines.run(routine, &turns));
         let (calls, ends_a_call) = (turns.len(), ends as f64 / turns.len() as f64);
-        let times = times(shortest, calls);
+        let nanos = nanos(routines::NAMES, ends, calls, |routine| routines.run(routine, &turns));
+        let times = beside_wildbg(nanos);
         println!("| {name} | {calls} | {ends_a_call:.1} | {most} | {times} |");
     }
 }
 
-/// The table of the inputs of the nets.
+fn print_numbered(boards: &[Position]) {
+    print_head("The end by its number", &["rolls", "calls"], &numbered::NAMES);
+    for (name, turns) in selections(boards) {
+        let played = corpus::played(&turns, SEED);
+        assert!(numbered::agree(&played), "{name}: another end");
+        let calls = played.len();
+        let run = |routine| numbered::run(routine, &played);
+        let nanos = nanos(numbered::NAMES, calls, calls, run);
+        println!("| {name} | {calls} | {} |", beside_wildbg(nanos));
+    }
+}
+
 fn print_inputs(boards: &[Position]) {
     let boards: Vec<(Position, Board)> =
         boards.iter().map(|&position| (position, position.into())).collect();
-    println!("| net | calls | inputs | {} |", inputs::NAMES.join(" | "));
-    println!("|---|---|---|{}", "---|".repeat(inputs::NAMES.len()));
+    let calls = boards.len();
+    print_head("The inputs of the nets", &["net", "calls", "inputs"], &inputs::NAMES);
     for net in NETS {
         assert!(net.agree(&boards), "{}: other inputs", net.name);
-        let calls = boards.len();
-        let shortest = shortest_runs(inputs::NAMES, calls, |routine| net.run(routine, &boards));
-        println!("| {} | {calls} | {} | {} |", net.name, net.inputs, times(shortest, calls));
+        let run = |routine| net.run(routine, &boards);
+        let times = beside_wildbg(nanos(inputs::NAMES, calls, calls, run));
+        println!("| {} | {calls} | {} | {times} |", net.name, net.inputs);
     }
 }
 
-/// The table of the steps to an end.
+fn print_keys(boards: &[Position]) {
+    let boards: Vec<Keyed> = boards.iter().copied().map(Keyed::new).collect();
+    assert!(boards.iter().all(Keyed::agrees), "another key or another board");
+    let calls = boards.len();
+    print_head("The key of a board", &["key", "calls"], &key::NAMES);
+    for (name, run) in key::WAYS {
+        let nanos = nanos(key::NAMES, calls, calls, |routine| run(routine, &boards));
+        println!("| {name} | {calls} | {} |", beside_wildbg(nanos));
+    }
+}
+
 fn print_recovery(boards: &[Position]) {
-    println!("| rolls | calls | steps a call | {} |", recovery::NAMES.join(" | "));
-    println!("|---|---|---|{}", "---|".repeat(recovery::NAMES.len()));
+    let columns = ["rolls", "calls", "steps a call"];
+    print_head("The steps to an end", &columns, &recovery::NAMES);
     for (name, turns) in selections(boards) {
-        let played = recovery::played(&turns, SEED);
+        let played = corpus::played(&turns, SEED);
         let (calls, steps) = (played.len(), recovery::run(0, &played));
-        let shortest =
-            shortest_runs(recovery::NAMES, steps, |routine| recovery::run(routine, &played));
-        let steps_a_call = steps as f64 / calls as f64;
-        println!("| {name} | {calls} | {steps_a_call:.2} | {} |", times(shortest, calls));
+        let run = |routine| recovery::run(routine, &played);
+        let times = beside_wildbg(nanos(recovery::NAMES, steps, calls, run));
+        println!("| {name} | {calls} | {:.2} | {times} |", steps as f64 / calls as f64);
     }
 }
 
-/// The table of reading a card.
-fn print_card() {
-    let (card, turns) = (card::longest(SEED), card::TURNS);
-    let read = |_| munchalep::card_read(black_box(&card)).expect("the card is read");
-    let [shortest] = shortest_runs(["munchalep"], turns, read);
-    let (micros, nanos) = (shortest.as_micros(), shortest.as_nanos() / turns as u128);
-    println!("| turns | bytes | a card | a turn |\n|---|---|---|---|");
-    println!("| {turns} | {} | {micros} µs | {nanos} ns |", card.len());
-}
-
-/// The cells of some routines, wildbg's first: the time of each, and how many times as fast as
-/// wildbg it is.
-fn times<const N: usize>(shortest: [Duration; N], calls: usize) -> String {
-    let nanos = shortest.map(|time| time.as_nanos() as f64 / calls as f64);
-    nanos.map(|time| format!("{time:.0} ns ({:.2})", nanos[0] / time)).join(" | ")
-}
-
-/// The shortest time of each routine, which all have to find the same. The routines take turns, so
-/// that what else the machine does falls on all of them.
-fn shortest_runs<const N: usize>(
-    names: [&str; N],
-    finds: usize,
-    mut run: impl FnMut(usize) -> usize,
-) -> [Duration; N] {
-    let mut shortest = [Duration::MAX; N];
-    for _ in 0..RUNS {
-        for (routine, shortest) in shortest.iter_mut().enumerate() {
-            let start = Instant::now();
-            let found = run(routine);
-            *shortest = start.elapsed().min(*shortest);
-            assert_eq!(found, finds, "{} finds another number", names[routine]);
-        }
+fn print_growth(boards: &[Position]) {
+    let boards = [boards, &corpus::spread_boards(SEED, SPREAD_BOARDS)].concat();
+    let (columns, mut routines) = (["ends, at least", "calls", "ends a call"], Routines::new());
+    print_head("A call by the ends", &columns, &growth::NAMES);
+    for group in growth::groups(&corpus::turns(&boards), SEED) {
+        assert!(group.agrees(&mut routines), "other ends or other steps");
+        let (calls, ends) = (group.turns.len(), routines.ends(&group.turns));
+        let run = |routine| group.run(routine, &mut routines);
+        let times = nanos(growth::NAMES, calls, calls, run).map(|time| format!("{time:.0} ns"));
+        let (ends_a_call, times) = (ends as f64 / calls as f64, times.join(" | "));
+        println!("| {} | {calls} | {ends_a_call:.1} | {times} |", group.fewest);
     }
-    shortest
+}
+
+fn print_cards() {
+    let longest = card::longest(SEED);
+    print_head("A card by its turns", &["turns"], &card::NAMES);
+    for turns in card::TURNS {
+        let mut card = Card::first_turns(&longest, turns);
+        let calls = card.calls();
+        let nanos = nanos(card::NAMES, calls, calls, |routine| card.run(routine));
+        let times = nanos.map(|time| format!("{:.2} µs", time / 1000.0));
+        println!("| {turns} | {} |", times.join(" | "));
+    }
 }

@@ -1,32 +1,12 @@
-//! The steps to an end of each turn, any end being as likely as another.
+//! The steps to an end of each turn.
 
-use crate::corpus::Turn;
-use crate::rng::Rng;
-use engine::position::Position;
-use logic::bg_move::BgMove;
-use munchalep::{Board, MOST_STEPS, Step};
+use crate::corpus::Played;
+use logic::bg_move::{BgMove, MoveDetail};
+use munchalep::{MOST_STEPS, Step};
 use std::hint::black_box;
 
 /// The routines by name, wildbg's first.
 pub const NAMES: [&str; 2] = ["wildbg", "munchalep"];
-
-/// A turn and an end of it, told before switching, for either side to measure.
-pub struct Played {
-    turn: Turn,
-    position: Position,
-    board: Board,
-}
-
-/// Each turn with one of its ends, which a seed decides.
-pub fn played(turns: &[Turn], seed: u64) -> Vec<Played> {
-    let mut rng = Rng::new(seed, 0);
-    let mut play = |&turn: &Turn| {
-        let end = rng.pick(&turn.position.all_positions_after_moving(&turn.roll));
-        let position = end.sides_switched();
-        Played { turn, position, board: position.into() }
-    };
-    turns.iter().map(&mut play).collect()
-}
 
 /// Runs the routine with a number. Answers how many steps it found.
 pub fn run(routine: usize, played: &[Played]) -> usize {
@@ -36,7 +16,7 @@ pub fn run(routine: usize, played: &[Played]) -> usize {
     }
 }
 
-fn wildbg(played: &Played) -> Vec<logic::bg_move::MoveDetail> {
+fn wildbg(played: &Played) -> Vec<MoveDetail> {
     BgMove::new(&played.turn.position, &played.position, &played.turn.roll).into_details()
 }
 

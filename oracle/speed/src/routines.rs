@@ -26,7 +26,7 @@ impl Routines {
     /// Runs the routine with a number.
     pub fn run(&mut self, routine: usize, turns: &[Turn]) -> usize {
         match routine {
-            0 => sum(turns, |turn| turn.position.all_positions_after_moving(&turn.roll).len()),
+            0 => sum(turns, |turn| turn.ends().len()),
             1 => sum(turns, count),
             2 => sum(turns, |turn| list(turn, &mut self.all)),
             _ => sum(turns, |turn| list(turn, &mut self.little)),
@@ -44,7 +44,8 @@ impl Routines {
     }
 }
 
-fn count(turn: &Turn) -> usize {
+/// The number of ends of a turn.
+pub fn count(turn: &Turn) -> usize {
     let (die1, die2) = turn.dice;
     munchalep::count(&turn.board, die1, die2).expect("an unfinished board and a roll")
 }

@@ -9,11 +9,12 @@ fn main() {
             "dice.rs",
             "inputs.rs",
             "position.rs",
-            "position/conversion.rs",
             "position/double_moves.rs",
             "position/mixed_moves.rs",
         ],
     );
+    // This includes position/conversion.rs.
+    sources::write("position/conversion.rs", include_bytes!("src/conversion.rs"));
     // inputs.rs declares this module and uses nothing of it; it is outside the port.
     sources::write("inputs/expert.rs", b"");
 }
