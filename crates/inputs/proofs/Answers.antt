@@ -4,13 +4,12 @@ use mathlib.Core.Path.{_≡_, refl}
 use mathlib.Core.List.{List, map}
 use Prim.Native.Nat.{ℕ, _<_, _≤_}
 use borrow.Author.Tests.{eq-eqb, ne-eqb, lt-ltb, le-ltb}
-use lib.Ieee.{Float}
 use lib.ListN.{length, getD}
 use Rattle.ints.specs.Answer.{value, refused}
-use Rattle.inputs.specs.Inputs.{whole}
+use Rattle.inputs.specs.Inputs.{whole, bits}
 use Rattle.inputs.specs.Answers.{given, not, fillAnswer, fillLent, placeAnswer}
 
-module _ (k size : ℕ) (inputs : List ℕ) (l : List Float) where
+module _ (k size : ℕ) (inputs : List ℕ) (l : List ℕ) where
   pub fill-board : (k ≡ 0 → ⊥) → (refused k 0 ≡ fillAnswer k size (length l)) × (l ≡ fillLent k size inputs l)
   unfolding fillAnswer fillLent
   fill-board n = rw (ne-eqb k 0 n) (refl, refl)
@@ -20,7 +19,7 @@ module _ (k size : ℕ) (inputs : List ℕ) (l : List Float) where
     unfolding fillAnswer fillLent
     fill-13 n = rw (eq-eqb k 0 e, ne-eqb (length l) size n) (refl, refl)
 
-    pub fill-done : length l ≡ size → (value 0 ≡ fillAnswer k size (length l)) × (map whole inputs ≡ fillLent k size inputs l)
+    pub fill-done : length l ≡ size → (value 0 ≡ fillAnswer k size (length l)) × (map bits inputs ≡ fillLent k size inputs l)
     unfolding fillAnswer fillLent
     fill-done n = rw (eq-eqb k 0 e, eq-eqb (length l) size n) (refl, refl)
 

@@ -1,21 +1,24 @@
 -- Every input of an accepted board is a whole number of at most fifteen, and its f32 is that number exactly.
 -- Assumes nothing.
-use mathlib.Core.Path.{_≡_, refl}
+use mathlib.Core.Path.{_≡_, refl, subst}
 use mathlib.Core.Logic.{_⊎_, inl, inr}
+use mathlib.Core.Bool as truth
 use mathlib.Core.Bool.{Bool, true, false, cond}
 use mathlib.Core.List.{List}
 use Prim.Native.Nat.{ℕ, zero, suc, _+_, _-_, _*_, _/_, _%_, _<_, _≤_}
 use native.Mathlib.Omega.{arith}
-use lib.Dec.{eqb, leb}
-use lib.Ieee.{toUnsigned}
+use lib.Dec.{T, eqb, leb}
+use lib.Ieee.{isNan, toUnsigned}
 use lib.IntN.{ℤ}
 use lib.ListN.{length, getD}
 use Rattle.ints.proofs.Tests.{lt-or-le}
-use Rattle.position.specs.Board.{checkers, Accepted}
+use Rattle.position.proofs.Boards.{unrefused-accepted}
+use Rattle.position.specs.Board.{checkers, Accepted, refusalOf}
 use Rattle.inputs.specs.Inputs.{whole, four, inputsOf, contactCounts, raceCounts, contactInputs, raceInputs}
-use Rattle.inputs.specs.Answers.{contactSize, raceSize}
-use Rattle.inputs.proofs.Floats.{whole-exact}
+use Rattle.inputs.specs.Answers.{contactSize, raceSize, InputAnswer, isNumber, placeAnswer, contactInput, raceInput}
+use Rattle.inputs.proofs.Floats.{whole-exact, whole-number}
 use Rattle.inputs.proofs.Own.{few}
+use Rattle.inputs.proofs.Answers.{place-board, place-14, place-value}
 use Rattle.inputs.proofs.Fours.{length-contact, length-race, input-four, contact-bar, contact-x, contact-o, race-x, race-o}
 
 -- the values of a count are at most one, or less than it
@@ -23,7 +26,7 @@ at-most-one : (q : Bool) → cond q 1 0 ≤ 1
 at-most-one true = omega arith
 at-most-one false = omega arith
 
-four-few : (n j : ℕ) → n ≤ checkers → getD (four n) j 0 ≤ checkers
+pub four-few : (n j : ℕ) → n ≤ checkers → getD (four n) j 0 ≤ checkers
 four-few n zero h = omega (arith, at-most-one (eqb n 1))
 four-few n (suc zero) h = omega (arith, at-most-one (eqb n 2))
 four-few n (suc (suc zero)) h = omega (arith, at-most-one (leb 3 n))
@@ -70,3 +73,36 @@ module _ {b : List ℤ} (a : Accepted checkers b) where
       let l = length-race b in
       let f = inputs-few b (raceCounts b) (λ k g. race-few k (omega arith)) p (omega arith) in
       whole-exact (getD (inputsOf checkers b (raceCounts b)) p 0) (omega arith)
+
+  contact-number : (p : ℕ) → p < contactSize → T (truth.not (isNan (whole (getD (contactInputs checkers b) p 0))))
+  unfolding contactInputs
+  contact-number p h =
+      let l = length-contact b in
+      let f = inputs-few b (contactCounts b) (λ k g. contact-few k (omega arith)) p (omega arith) in
+      whole-number (getD (inputsOf checkers b (contactCounts b)) p 0) (omega arith)
+
+  race-number : (p : ℕ) → p < raceSize → T (truth.not (isNan (whole (getD (raceInputs checkers b) p 0))))
+  unfolding raceInputs
+  race-number p h =
+      let l = length-race b in
+      let f = inputs-few b (raceCounts b) (λ k g. race-few k (omega arith)) p (omega arith) in
+      whole-number (getD (inputsOf checkers b (raceCounts b)) p 0) (omega arith)
+
+-- one input that is answered is a number
+place-number : (k size : ℕ) (inputs : List ℕ) (p : ℕ) → (k ≡ 0 → p < size → T (truth.not (isNan (whole (getD inputs p 0)))))
+    → T (isNumber (placeAnswer k size inputs p))
+place-number k size inputs p m = go (lt-or-le 0 k) (lt-or-le p size)
+  where
+    go : (0 < k) ⊎ (k ≤ 0) → (p < size) ⊎ (size ≤ p) → T (isNumber (placeAnswer k size inputs p))
+    go (inl n) q = subst (λ (a : InputAnswer). T (isNumber a)) (place-board k size inputs p (λ z. omega arith)) tt
+    go (inr e) (inl h) = subst (λ (a : InputAnswer). T (isNumber a)) (place-value k size inputs p (omega arith) h) (m (omega arith) h)
+    go (inr e) (inr h) = subst (λ (a : InputAnswer). T (isNumber a)) (place-14 k size inputs p (omega arith) h) tt
+
+module _ (b : List ℤ) (l : length b ≡ 26) (place : ℕ) where
+  pub contact-input-number : T (isNumber (contactInput checkers b place))
+  unfolding contactInput
+  contact-input-number = place-number (refusalOf checkers b) contactSize (contactInputs checkers b) place (λ e. contact-number (unrefused-accepted checkers b l e) place)
+
+  pub race-input-number : T (isNumber (raceInput checkers b place))
+  unfolding raceInput
+  race-input-number = place-number (refusalOf checkers b) raceSize (raceInputs checkers b) place (λ e. race-number (unrefused-accepted checkers b l e) place)

@@ -1,23 +1,28 @@
--- Which side's point each place belongs to; and one input asked by its place is the value that filling leaves there.
+-- Which side's point each place belongs to; and one input asked by its place is the value whose bits filling leaves there.
 use mathlib.Core.Path.{_≡_, refl, sym, ap, ap₂, _∙_}
 use mathlib.Core.List.{List}
 use Prim.Native.Nat.{ℕ, _+_, _-_, _*_, _/_, _%_, _≤_, _<_}
 use native.Mathlib.Omega.{arith}
-use lib.Ieee.{Float, nan}
+use lib.Ieee.{Float, binary32, toBits}
 use lib.IntN.{ℤ}
 use lib.ListN.{length, getD}
 use Rattle.position.specs.Board.{xs, os, refusalOf}
-use Rattle.inputs.specs.Inputs.{four, inputsOf, contactCounts, raceCounts, contactInputs, raceInputs}
+use Rattle.inputs.specs.Inputs.{bits, four, inputsOf, contactCounts, raceCounts, contactInputs, raceInputs}
 use Rattle.inputs.specs.Answers.{contactSize, raceSize, given, fillLent, placeAnswer, contactLent, contactInput, raceLent, raceInput}
-use Rattle.inputs.proofs.Floats.{getD-whole}
+use Rattle.inputs.proofs.Floats.{mapped-at, bits-is}
 use Rattle.inputs.proofs.Fours.{length-contact, length-race, length-inputs, input-four, contact-bar, contact-x, contact-o, race-x, race-o}
 use Rattle.inputs.proofs.Answers.{fill-done, place-value}
 
-same : (k size : ℕ) (inputs : List ℕ) (out : List Float) (p : ℕ) → k ≡ 0 → length inputs ≡ size → length out ≡ size → p < size
-    → placeAnswer k size inputs p ≡ given (getD (fillLent k size inputs out) p nan)
-same k size inputs out p e l m h =
-    sym (place-value k size inputs p e h)
-    ∙ ap given (sym (getD-whole inputs p nan (omega arith)) ∙ ap (λ (x : List Float). getD x p nan) (fill-done k size inputs out e m .1))
+same : (k size : ℕ) (inputs out : List ℕ) (p : ℕ) (v : Float) → k ≡ 0 → length inputs ≡ size → length out ≡ size → p < size
+    → placeAnswer k size inputs p ≡ given v → getD (fillLent k size inputs out) p 0 ≡ toBits binary32 v
+same k size inputs out p v e l m h g =
+    sym (ap (λ (x : List ℕ). getD x p 0) (fill-done k size inputs out e m .1))
+    ∙ mapped-at bits inputs p 0 (omega arith)
+    ∙ sym (bits-is (getD inputs p 0))
+    ∙ ap (toBits binary32) (given-same (place-value k size inputs p e h ∙ g))
+  where
+    given-same : {x y : Float} → given x ≡ given y → x ≡ y
+    given-same q = cc
 
 pub contact-all : (n : ℕ) (b : List ℤ) → length (contactInputs n b) ≡ contactSize
 unfolding contactInputs
@@ -27,14 +32,16 @@ pub race-all : (n : ℕ) (b : List ℤ) → length (raceInputs n b) ≡ raceSize
 unfolding raceInputs
 race-all n b = omega (arith, length-inputs n b (raceCounts b), length-race b)
 
-module _ (n : ℕ) (b : List ℤ) (out : List Float) (place : ℕ) (e : refusalOf n b ≡ 0) where
-  pub contact-input-placed : length out ≡ contactSize → place < contactSize → contactInput n b place ≡ given (getD (contactLent n b out) place nan)
+module _ (n : ℕ) (b : List ℤ) (out : List ℕ) (place : ℕ) (v : Float) (e : refusalOf n b ≡ 0) where
+  pub contact-input-placed : length out ≡ contactSize → place < contactSize → contactInput n b place ≡ given v
+      → getD (contactLent n b out) place 0 ≡ toBits binary32 v
   unfolding contactInput contactLent
-  contact-input-placed m h = same (refusalOf n b) contactSize (contactInputs n b) out place e (contact-all n b) m h
+  contact-input-placed m h g = same (refusalOf n b) contactSize (contactInputs n b) out place v e (contact-all n b) m h g
 
-  pub race-input-placed : length out ≡ raceSize → place < raceSize → raceInput n b place ≡ given (getD (raceLent n b out) place nan)
+  pub race-input-placed : length out ≡ raceSize → place < raceSize → raceInput n b place ≡ given v
+      → getD (raceLent n b out) place 0 ≡ toBits binary32 v
   unfolding raceInput raceLent
-  race-input-placed m h = same (refusalOf n b) raceSize (raceInputs n b) out place e (race-all n b) m h
+  race-input-placed m h g = same (refusalOf n b) raceSize (raceInputs n b) out place v e (race-all n b) m h g
 
 -- ---- value j of a point by its place
 

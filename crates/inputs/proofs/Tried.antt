@@ -1,13 +1,14 @@
 -- The definitions computed at closed boards (document 01, "Inputs", "Refusal numbers" 13 and 14).
 use mathlib.Core.Path.{_≡_, refl}
-use mathlib.Core.List.{List, [], _∷_, _++_}
+use mathlib.Core.List.{List, [], _∷_, _++_, map}
 use Prim.Native.Nat.{ℕ}
+use lib.Ieee.{toBits}
 use lib.IntN.{ℤ, pos, negsuc}
 use lib.ListN.{replicate, set}
 use Rattle.ints.specs.Answer.{value, refused}
 use Rattle.ints.specs.Sums.{sumTo, values}
 use Rattle.position.specs.Board.{checkers, start, refusalOf}
-use Rattle.inputs.specs.Inputs.{whole, fours, contactCounts, raceCounts, inputsOf, contactInputs, raceInputs}
+use Rattle.inputs.specs.Inputs.{whole, bits, fours, contactCounts, raceCounts, inputsOf, contactInputs, raceInputs}
 use Rattle.inputs.specs.Answers.{given, not, fillAnswer, placeAnswer, contactAnswer, contactInput, raceAnswer, raceInput}
 
 abbrev empty : List ℤ
@@ -60,3 +61,8 @@ refusals : (contactAnswer checkers start 186 ≡ refused 13 0)
     × (raceInput checkers (set empty 0 (pos 1)) 186 ≡ not 4)
 unfolding contactAnswer raceAnswer fillAnswer contactInput raceInput placeAnswer refusalOf sumTo
 refusals = (refl, refl, refl, refl, refl, refl)
+
+-- the bits of 0, 1, 2 and 15, as memory holds them
+bits-tried : map bits (0 ∷ 1 ∷ 2 ∷ 15 ∷ []) ≡ 0 ∷ 1065353216 ∷ 1073741824 ∷ 1097859072 ∷ []
+unfolding bits whole toBits
+bits-tried = refl

@@ -2,7 +2,6 @@
 use mathlib.Core.Path.{_≡_}
 use mathlib.Core.List.{List}
 use Prim.Native.Nat.{ℕ}
-use lib.Ieee.{Float}
 use lib.IntN.{ℤ}
 use lib.ListN.{length}
 use Rattle.ints.proofs.Tests.{one-answer}
@@ -24,12 +23,12 @@ input-apart (Value v) (Input.Refused n) e = cc
 input-apart (Input.Refused m) (Value w) e = cc
 input-apart (Input.Refused m) (Input.Refused n) e = cc
 
-pub contact-inputs-unique : (n : ℕ) (b : List ℤ) (out : List Float) (r s : Filled) (l m : List Float)
+pub contact-inputs-unique : (n : ℕ) (b : List ℤ) (out : List ℕ) (r s : Filled) (l m : List ℕ)
     → filledTold r ≡ contactAnswer n b (length out) → l ≡ contactLent n b out
     → filledTold s ≡ contactAnswer n b (length out) → m ≡ contactLent n b out → (r ≡ s) × (l ≡ m)
 contact-inputs-unique n b out r s l m p u q v = (filled-apart r s (one-answer p q), one-answer u v)
 
-pub race-inputs-unique : (n : ℕ) (b : List ℤ) (out : List Float) (r s : Filled) (l m : List Float)
+pub race-inputs-unique : (n : ℕ) (b : List ℤ) (out : List ℕ) (r s : Filled) (l m : List ℕ)
     → filledTold r ≡ raceAnswer n b (length out) → l ≡ raceLent n b out
     → filledTold s ≡ raceAnswer n b (length out) → m ≡ raceLent n b out → (r ≡ s) × (l ≡ m)
 race-inputs-unique n b out r s l m p u q v = (filled-apart r s (one-answer p q), one-answer u v)

@@ -1,14 +1,15 @@
 -- What filling a slice and asking for one input answer (document 01, "Inputs", "Refusal numbers" 13 and 14).
-use mathlib.Core.Bool.{cond}
+use mathlib.Core.Bool as truth
+use mathlib.Core.Bool.{Bool, true, cond}
 use mathlib.Core.List.{List, map}
 use Prim.Native.Nat.{ℕ}
 use lib.Dec.{ltb, eqb}
-use lib.Ieee.{Float}
+use lib.Ieee.{Float, isNan}
 use lib.IntN.{ℤ}
 use lib.ListN.{length, getD}
 use Rattle.ints.specs.Answer.{Answer, value, refused}
 use Rattle.position.specs.Board.{refusalOf}
-use Rattle.inputs.specs.Inputs.{whole, contactInputs, raceInputs}
+use Rattle.inputs.specs.Inputs.{whole, bits, contactInputs, raceInputs}
 use Rattle.inputs.specs.declared.Filled.{Filled}
 use Rattle.inputs.specs.declared.Filled.the-variants.{Done}
 use Rattle.inputs.specs.declared.Input.{Input}
@@ -31,6 +32,11 @@ pub data InputAnswer : Type 0 where
   given : Float → InputAnswer
   not : ℕ → InputAnswer
 
+-- whether an answered value is a number, and so has bits of its own
+abbrev pub isNumber : InputAnswer → Bool
+isNumber (given v) = truth.not (isNan v)
+isNumber (not k) = true
+
 -- what each case of one input says
 abbrev pub inputTold : Input → InputAnswer
 inputTold (Value v) = given v
@@ -40,9 +46,9 @@ inputTold (Input.Refused k) = not k
 unfoldable pub fillAnswer : ℕ → ℕ → ℕ → Answer
 fillAnswer k size held = cond (eqb k 0) (cond (eqb held size) (value 0) (refused 13 0)) (refused k 0)
 
--- "Inputs": the slice afterwards holds the inputs by their places; where filling is refused it is as it was
-unfoldable pub fillLent : ℕ → ℕ → List ℕ → List Float → List Float
-fillLent k size inputs out = cond (eqb k 0) (cond (eqb (length out) size) (map whole inputs) out) out
+-- "Inputs": the slice afterwards holds the bits of the inputs by their places; where filling is refused it is as it was
+unfoldable pub fillLent : ℕ → ℕ → List ℕ → List ℕ → List ℕ
+fillLent k size inputs out = cond (eqb k 0) (cond (eqb (length out) size) (map bits inputs) out) out
 
 -- "Refusal numbers", order: the board's refusal k, then 14 where the place is not below `size`; else the input that has the place
 unfoldable pub placeAnswer : ℕ → ℕ → List ℕ → ℕ → InputAnswer
@@ -53,7 +59,7 @@ placeAnswer k size inputs place =
 unfoldable pub contactAnswer : ℕ → List ℤ → ℕ → Answer
 contactAnswer n b held = fillAnswer (refusalOf n b) contactSize held
 
-unfoldable pub contactLent : ℕ → List ℤ → List Float → List Float
+unfoldable pub contactLent : ℕ → List ℤ → List ℕ → List ℕ
 contactLent n b out = fillLent (refusalOf n b) contactSize (contactInputs n b) out
 
 unfoldable pub contactInput : ℕ → List ℤ → ℕ → InputAnswer
@@ -63,7 +69,7 @@ contactInput n b place = placeAnswer (refusalOf n b) contactSize (contactInputs 
 unfoldable pub raceAnswer : ℕ → List ℤ → ℕ → Answer
 raceAnswer n b held = fillAnswer (refusalOf n b) raceSize held
 
-unfoldable pub raceLent : ℕ → List ℤ → List Float → List Float
+unfoldable pub raceLent : ℕ → List ℤ → List ℕ → List ℕ
 raceLent n b out = fillLent (refusalOf n b) raceSize (raceInputs n b) out
 
 unfoldable pub raceInput : ℕ → List ℤ → ℕ → InputAnswer

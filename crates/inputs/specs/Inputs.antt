@@ -3,7 +3,7 @@ use mathlib.Core.Bool.{cond}
 use mathlib.Core.List.{List, [], _∷_, _++_, map}
 use Prim.Native.Nat.{ℕ, _-_}
 use lib.Dec.{leb, eqb}
-use lib.Ieee.{Float, binary32, ofInt}
+use lib.Ieee.{Float, binary32, ofInt, toBits}
 use lib.IntN.{ℤ, pos}
 use Rattle.ints.specs.Sums.{values}
 use Rattle.position.specs.Board.{xs, os, xAll, oAll}
@@ -12,6 +12,10 @@ use Rattle.position.specs.Board.{xs, os, xAll, oAll}
 unfoldable pub whole : ℕ → Float
 unfolding ofInt
 whole n = ofInt binary32 (pos n)
+
+-- "Refusal numbers": lent memory stays, byte for byte; so a lent f32 is told by its bits, since the values have one NaN where memory has many
+unfoldable pub bits : ℕ → ℕ
+bits n = toBits binary32 (whole n)
 
 -- "Inputs": n checkers of a side on a point give 1,0,0,0 for one, 0,1,0,0 for two, 0,0,1 and n less three from three on, all 0 for none
 abbrev pub four : ℕ → List ℕ

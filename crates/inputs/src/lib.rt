@@ -1,13 +1,17 @@
 // From inputs.rs: the inputs of the two nets, each a small whole number as f32, filled into a lent slice or asked one by one by place.
+// A lent slice is told by the bits of its f32s, so that a refusal is promised to leave every byte, those of a NaN too.
 ghost use mathlib.Core.Path.{_≡_};
+ghost use mathlib.Core.Bool.{not};
 ghost use mathlib.Core.List.{map};
 ghost use Prim.Native.Nat.{_+_, _-_, _*_, _≤_, _<_};
+ghost use lib.Dec.{T};
+ghost use lib.Ieee.{binary32, isNan, toBits};
 ghost use lib.ListN.{length, getD};
 ghost use lib.Seq.{sets};
 ghost use Rattle.ints.specs.Signed.{posPart, negPart};
 ghost use Rattle.ints.specs.Sums.{values};
 ghost use Rattle.position.specs.Board.{checkers, xs, os, Accepted};
-ghost use Rattle.inputs.specs.Inputs.{whole, four, fours, contactCounts, raceCounts, tdInputs};
+ghost use Rattle.inputs.specs.Inputs.{whole, bits, four, fours, contactCounts, raceCounts, tdInputs};
 ghost use Rattle.inputs.specs.Answers.{contactSize, raceSize, filledTold, inputTold, contactAnswer, contactLent, contactInput, raceAnswer, raceLent, raceInput};
 
 // How many inputs each net has.
@@ -62,9 +66,9 @@ pub enum Input {
     Refused(u8),
 }
 
-// Fills the slice with the contact net's inputs, or refuses and leaves it: the entries by 1 to 4, a slice that has not exactly 202
+// Fills the slice with the bits of the contact net's inputs, or refuses and leaves it: the entries by 1 to 4, a slice that has not exactly 202
 // values by 13. Finished and empty boards are taken. The board is lent, which spares a copy of it beside the table.
-pub fn contact_inputs(b: &[i8; 26], out: &mut [f32]) -> Filled
+pub fn contact_inputs(b: &[i8; 26], out: &mut [u32]) -> Filled
     ensures { λ r. ⌜ (filledTold r ≡ contactAnswer checkers (now (b .entry)) (length (now (out .entry)))) × (now (out .exit) ≡ contactLent checkers (now (b .entry)) (now (out .entry))) ⌝ }
 {
     let checked = position::check(*b);
@@ -75,14 +79,14 @@ pub fn contact_inputs(b: &[i8; 26], out: &mut [f32]) -> Filled
     if out.len() != CONTACT_INPUTS {
         return Filled::Refused(13);
     }
-    out[0] = off(checked.all.x);
-    out[1] = off(checked.all.o);
+    out[0] = off_bits(checked.all.x);
+    out[1] = off_bits(checked.all.o);
     put_contact(b, out);
     Filled::Done
 }
 
 // The same for the race net, whose slice has exactly 186 values.
-pub fn race_inputs(b: &[i8; 26], out: &mut [f32]) -> Filled
+pub fn race_inputs(b: &[i8; 26], out: &mut [u32]) -> Filled
     ensures { λ r. ⌜ (filledTold r ≡ raceAnswer checkers (now (b .entry)) (length (now (out .entry)))) × (now (out .exit) ≡ raceLent checkers (now (b .entry)) (now (out .entry))) ⌝ }
 {
     let checked = position::check(*b);
@@ -93,8 +97,8 @@ pub fn race_inputs(b: &[i8; 26], out: &mut [f32]) -> Filled
     if out.len() != RACE_INPUTS {
         return Filled::Refused(13);
     }
-    out[0] = off(checked.all.x);
-    out[1] = off(checked.all.o);
+    out[0] = off_bits(checked.all.x);
+    out[1] = off_bits(checked.all.o);
     put_race(b, out);
     Filled::Done
 }
@@ -151,10 +155,18 @@ fn off(n: u32) -> f32
     (position::NUM_OF_CHECKERS - n) as f32
 }
 
-// Writes the values of the contact net's points from place 2 on.
-fn put_contact(b: &[i8; 26], out: &mut [f32])
+// Their bits.
+fn off_bits(n: u32) -> u32
+    requires { ⌜ n ≤ checkers ⌝ }
+    ensures { λ r. ⌜ r ≡ bits (checkers - n) ⌝ }
+{
+    bits_of(off(n))
+}
+
+// Writes the bits of the contact net's points from place 2 on.
+fn put_contact(b: &[i8; 26], out: &mut [u32])
     requires { ⌜ Accepted checkers (now b) × (length (now out) ≡ contactSize) ⌝ }
-    ensures { λ _. ⌜ now (out .exit) ≡ sets (now (out .entry)) 2 (map whole (fours (contactCounts (now (b .entry))))) ⌝ }
+    ensures { λ _. ⌜ now (out .exit) ≡ sets (now (out .entry)) 2 (map bits (fours (contactCounts (now (b .entry))))) ⌝ }
 {
     let table = td_table();
     put_x(&table, b, 25, 1, out, 2);
@@ -163,43 +175,43 @@ fn put_contact(b: &[i8; 26], out: &mut [f32])
 }
 
 // The same of the race net.
-fn put_race(b: &[i8; 26], out: &mut [f32])
+fn put_race(b: &[i8; 26], out: &mut [u32])
     requires { ⌜ Accepted checkers (now b) × (length (now out) ≡ raceSize) ⌝ }
-    ensures { λ _. ⌜ now (out .exit) ≡ sets (now (out .entry)) 2 (map whole (fours (raceCounts (now (b .entry))))) ⌝ }
+    ensures { λ _. ⌜ now (out .exit) ≡ sets (now (out .entry)) 2 (map bits (fours (raceCounts (now (b .entry))))) ⌝ }
 {
     let table = td_table();
     put_x(&table, b, 1, 23, out, 2);
     put_o(&table, b, 2, 23, out, 94);
 }
 
-// Writes x's values on the n points from `first` on, from place i on.
-fn put_x(table: &[[f32; 4]; 31], b: &[i8; 26], first: usize, n: usize, out: &mut [f32], i: usize)
+// Writes the bits of x's values on the n points from `first` on, from place i on.
+fn put_x(table: &[[f32; 4]; 31], b: &[i8; 26], first: usize, n: usize, out: &mut [u32], i: usize)
     requires { ⌜ (now table ≡ tdInputs) × Accepted checkers (now b) ⌝ }
     requires { ⌜ (first + n ≤ 26) × (i + 4 * n ≤ length (now out)) ⌝ }
-    ensures { λ _. ⌜ now (out .exit) ≡ sets (now (out .entry)) i (map whole (fours (values (xs (now (b .entry))) first n))) ⌝ }
+    ensures { λ _. ⌜ now (out .exit) ≡ sets (now (out .entry)) i (map bits (fours (values (xs (now (b .entry))) first n))) ⌝ }
 {
     let mut k = 0;
     while k < n {
-        put_row(out, i + 4 * k, td_inputs(table, b[first + k]));
+        put_row(out, i + 4 * k, td_bits(table, b[first + k]));
         k += 1;
     }
 }
 
 // The same of o, whose own checkers are the negative entries.
-fn put_o(table: &[[f32; 4]; 31], b: &[i8; 26], first: usize, n: usize, out: &mut [f32], i: usize)
+fn put_o(table: &[[f32; 4]; 31], b: &[i8; 26], first: usize, n: usize, out: &mut [u32], i: usize)
     requires { ⌜ (now table ≡ tdInputs) × Accepted checkers (now b) ⌝ }
     requires { ⌜ (first + n ≤ 26) × (i + 4 * n ≤ length (now out)) ⌝ }
-    ensures { λ _. ⌜ now (out .exit) ≡ sets (now (out .entry)) i (map whole (fours (values (os (now (b .entry))) first n))) ⌝ }
+    ensures { λ _. ⌜ now (out .exit) ≡ sets (now (out .entry)) i (map bits (fours (values (os (now (b .entry))) first n))) ⌝ }
 {
     let mut k = 0;
     while k < n {
-        put_row(out, i + 4 * k, td_inputs(table, -b[first + k]));
+        put_row(out, i + 4 * k, td_bits(table, -b[first + k]));
         k += 1;
     }
 }
 
-// Writes four values from place i on.
-fn put_row(out: &mut [f32], i: usize, row: [f32; 4])
+// Writes the bits of four values from place i on.
+fn put_row(out: &mut [u32], i: usize, row: [u32; 4])
     requires { ⌜ i + 4 ≤ length (now out) ⌝ }
     ensures { λ _. ⌜ now (out .exit) ≡ sets (now (out .entry)) i row ⌝ }
 {
@@ -250,6 +262,23 @@ fn td_inputs(table: &[[f32; 4]; 31], own: i8) -> [f32; 4]
     ensures { λ r. ⌜ r ≡ map whole (four (posPart own)) ⌝ }
 {
     table[(own + 15) as usize]
+}
+
+// Their bits.
+fn td_bits(table: &[[f32; 4]; 31], own: i8) -> [u32; 4]
+    requires { ⌜ (now table ≡ tdInputs) × (posPart own ≤ checkers) × (negPart own ≤ checkers) ⌝ }
+    ensures { λ r. ⌜ r ≡ map bits (four (posPart own)) ⌝ }
+{
+    let row = td_inputs(table, own);
+    [bits_of(row[0]), bits_of(row[1]), bits_of(row[2]), bits_of(row[3])]
+}
+
+// The bits of a value that is a number, as lent memory holds them.
+pub fn bits_of(value: f32) -> u32
+    requires { ⌜ T (not (isNan value)) ⌝ }
+    ensures { λ r. ⌜ r ≡ toBits binary32 value ⌝ }
+{
+    f32::to_bits(value)
 }
 
 // The table as a value: a loop lends it, and so builds it once.

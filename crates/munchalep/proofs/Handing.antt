@@ -2,7 +2,6 @@
 use mathlib.Core.Path.{_≡_, ap, _∙_}
 use mathlib.Core.List.{List}
 use Prim.Native.Nat.{ℕ, _+_, _*_}
-use lib.Ieee.{Float}
 use lib.IntN.{ℤ}
 use Rattle.position.specs.declared.BoardAnswer.{BoardAnswer}
 use Rattle.card.specs.declared.PositionAnswer.{PositionAnswer}
@@ -22,7 +21,7 @@ handed-position {a} {b} {out} p e = record {
   lent = p .lent ∙ ap (λ (x : PositionAnswer). after (x .refused) (x .board) out) e;
 }
 
-pub handed-input : {a b : InputAnswer} {out out' : Float} {r : ℕ} → PutInput a out r out' → a ≡ b → PutInput b out r out'
+pub handed-input : {a b : InputAnswer} {out out' r : ℕ} → PutInput a out r out' → a ≡ b → PutInput b out r out'
 handed-input {a} {b} {out} p e = record {
   number = p .number ∙ ap inputNumber e;
   lent = p .lent ∙ ap (λ (x : InputAnswer). inputAfter x out) e;

@@ -2,7 +2,6 @@
 use mathlib.Core.Path.{_≡_}
 use mathlib.Core.List.{List}
 use Prim.Native.Nat.{ℕ}
-use lib.Ieee.{Float}
 use lib.IntN.{ℤ}
 use lib.ListN.{length}
 use Rattle.ints.specs.Answer.{packed}
@@ -57,16 +56,16 @@ card-read-unique card r s p q = one-answer p q
 pub card-position-unique : (a : PositionAnswer) (out : List ℤ) (r s : ℕ) (l m : List ℤ) → PutPosition a out r l → PutPosition a out s m → (r ≡ s) × (l ≡ m)
 card-position-unique a out r s l m p q = (one-answer (p .number) (q .number), one-answer (p .lent) (q .lent))
 
-pub contact-inputs-unique : (b : List ℤ) (inputs : List Float) (r s : ℕ) (l m : List Float)
+pub contact-inputs-unique : (b : List ℤ) (inputs : List ℕ) (r s : ℕ) (l m : List ℕ)
     → r ≡ packed (contactAnswer checkers b (length inputs)) → l ≡ contactLent checkers b inputs
     → s ≡ packed (contactAnswer checkers b (length inputs)) → m ≡ contactLent checkers b inputs → (r ≡ s) × (l ≡ m)
 contact-inputs-unique b inputs r s l m p u q v = (one-answer p q, one-answer u v)
 
-pub race-inputs-unique : (b : List ℤ) (inputs : List Float) (r s : ℕ) (l m : List Float)
+pub race-inputs-unique : (b : List ℤ) (inputs : List ℕ) (r s : ℕ) (l m : List ℕ)
     → r ≡ packed (raceAnswer checkers b (length inputs)) → l ≡ raceLent checkers b inputs
     → s ≡ packed (raceAnswer checkers b (length inputs)) → m ≡ raceLent checkers b inputs → (r ≡ s) × (l ≡ m)
 race-inputs-unique b inputs r s l m p u q v = (one-answer p q, one-answer u v)
 
 -- of `munchalep_contact_input` and `munchalep_race_input`
-pub input-unique : (a : InputAnswer) (out : Float) (r s : ℕ) (v w : Float) → PutInput a out r v → PutInput a out s w → (r ≡ s) × (v ≡ w)
+pub input-unique : (a : InputAnswer) (out r s v w : ℕ) → PutInput a out r v → PutInput a out s w → (r ≡ s) × (v ≡ w)
 input-unique a out r s v w p q = (one-answer (p .number) (q .number), one-answer (p .lent) (q .lent))

@@ -4,7 +4,7 @@ use mathlib.Core.Bool.{cond}
 use mathlib.Core.List.{List}
 use Prim.Native.Nat.{ℕ}
 use lib.Dec.{eqb}
-use lib.Ieee.{Float}
+use lib.Ieee.{binary32, toBits}
 use lib.IntN.{ℤ}
 use Rattle.position.specs.declared.BoardAnswer.{BoardAnswer}
 use Rattle.key.specs.declared.KeyAnswer.{KeyAnswer}
@@ -24,16 +24,16 @@ pub record PutKey (a : KeyAnswer) (out : List ℕ) (r : ℕ) (out' : List ℕ) :
   pub number : r ≡ a .refused
   pub lent : out' ≡ after (a .refused) (a .key) out
 
--- "Inputs", one input: the number of its answer, 0 where there is a value, and the float that the out parameter holds afterwards
+-- "Inputs", one input: the number of its answer, 0 where there is a value, and the bits of the float that the out parameter holds afterwards
 abbrev pub inputNumber : InputAnswer → ℕ
 inputNumber (given v) = 0
 inputNumber (not k) = k
 
-abbrev pub inputAfter : InputAnswer → Float → Float
-inputAfter (given v) out = v
+abbrev pub inputAfter : InputAnswer → ℕ → ℕ
+inputAfter (given v) out = toBits binary32 v
 inputAfter (not k) out = out
 
 -- the same where one input is answered
-pub record PutInput (a : InputAnswer) (out : Float) (r : ℕ) (out' : Float) : Type 0 where
+pub record PutInput (a : InputAnswer) (out r out' : ℕ) : Type 0 where
   pub number : r ≡ inputNumber a
   pub lent : out' ≡ inputAfter a out

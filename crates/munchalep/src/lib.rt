@@ -12,6 +12,7 @@ use position::BoardAnswer;
 use position::phase::GamePhase;
 ghost use mathlib.Core.Path.{_≡_};
 ghost use Prim.Native.Nat.{_≤_};
+ghost use lib.Dec.{T};
 ghost use lib.ListN.{length};
 ghost use Rattle.ints.specs.Answer.{packed, carried};
 ghost use Rattle.position.specs.Board.{checkers, refusalOf};
@@ -19,7 +20,7 @@ ghost use Rattle.position.specs.Phase.{phaseAnswer};
 ghost use Rattle.position.specs.Answers.{switchAnswer, stepAnswer, phaseTold};
 ghost use Rattle.moves.specs.Answers.{listTold, listAnswer, listedIn, countTold, countAnswer, endAnswer};
 ghost use Rattle.key.specs.Key.{keyAnswer, boardOfKeyAnswer};
-ghost use Rattle.inputs.specs.Answers.{filledTold, inputTold, contactAnswer, contactLent, contactInput, raceAnswer, raceLent, raceInput};
+ghost use Rattle.inputs.specs.Answers.{isNumber, filledTold, inputTold, contactAnswer, contactLent, contactInput, raceAnswer, raceLent, raceInput};
 ghost use Rattle.munchalep.specs.Lent.{Put, PutKey, PutInput};
 
 // The refusal of a board, 1 to 4, or 0.
@@ -112,9 +113,10 @@ pub extern "C" fn munchalep_end(
     put(moves::end(*board, die1, die2, number), out)
 }
 
-// Fills exactly 202 values with the contact net's inputs; any other number of them stays as it was.
+// Fills exactly 202 values with the contact net's inputs; any other number of them stays as it was. Lent floats are told by their
+// bits, so that a refusal is promised to leave every byte, those of a NaN too.
 #[no_mangle]
-pub extern "C" fn munchalep_contact_inputs(board: &[i8; 26], inputs: &mut [f32]) -> u64
+pub extern "C" fn munchalep_contact_inputs(board: &[i8; 26], inputs: &mut [u32]) -> u64
     ensures { λ r. ⌜ (r ≡ packed (contactAnswer checkers (now (board .entry)) (length (now (inputs .entry))))) × (now (inputs .exit) ≡ contactLent checkers (now (board .entry)) (now (inputs .entry))) ⌝ }
 {
     filled_number(inputs::contact_inputs(board, inputs))
@@ -122,7 +124,7 @@ pub extern "C" fn munchalep_contact_inputs(board: &[i8; 26], inputs: &mut [f32])
 
 // The same of the race net and exactly 186 values.
 #[no_mangle]
-pub extern "C" fn munchalep_race_inputs(board: &[i8; 26], inputs: &mut [f32]) -> u64
+pub extern "C" fn munchalep_race_inputs(board: &[i8; 26], inputs: &mut [u32]) -> u64
     ensures { λ r. ⌜ (r ≡ packed (raceAnswer checkers (now (board .entry)) (length (now (inputs .entry))))) × (now (inputs .exit) ≡ raceLent checkers (now (board .entry)) (now (inputs .entry))) ⌝ }
 {
     filled_number(inputs::race_inputs(board, inputs))
@@ -130,7 +132,7 @@ pub extern "C" fn munchalep_race_inputs(board: &[i8; 26], inputs: &mut [f32]) ->
 
 // The contact net's input that has the place.
 #[no_mangle]
-pub extern "C" fn munchalep_contact_input(board: &[i8; 26], place: usize, out: &mut f32) -> u64
+pub extern "C" fn munchalep_contact_input(board: &[i8; 26], place: usize, out: &mut u32) -> u64
     ensures { λ r. ⌜ PutInput (contactInput checkers (now (board .entry)) place) (now (out .entry)) r (now (out .exit)) ⌝ }
 {
     put_input(inputs::contact_input(*board, place), out)
@@ -138,7 +140,7 @@ pub extern "C" fn munchalep_contact_input(board: &[i8; 26], place: usize, out: &
 
 // The race net's input that has the place.
 #[no_mangle]
-pub extern "C" fn munchalep_race_input(board: &[i8; 26], place: usize, out: &mut f32) -> u64
+pub extern "C" fn munchalep_race_input(board: &[i8; 26], place: usize, out: &mut u32) -> u64
     ensures { λ r. ⌜ PutInput (raceInput checkers (now (board .entry)) place) (now (out .entry)) r (now (out .exit)) ⌝ }
 {
     put_input(inputs::race_input(*board, place), out)
@@ -155,12 +157,13 @@ fn filled_number(answer: Filled) -> u64
 }
 
 // The number of one input's answer; its value, if it has one, goes to `out`.
-fn put_input(answer: Input, out: &mut f32) -> u64
+fn put_input(answer: Input, out: &mut u32) -> u64
+    requires { ⌜ T (isNumber (inputTold answer)) ⌝ }
     ensures { λ r. ⌜ PutInput (inputTold answer) (now (out .entry)) r (now (out .exit)) ⌝ }
 {
     match answer {
         Input::Value(value) => {
-            *out = value;
+            *out = inputs::bits_of(value);
             0
         }
         Input::Refused(number) => number as u64,

@@ -5,7 +5,7 @@ use Prim.Native.Nat.{ℕ, _-_}
 use native.Mathlib.Omega.{arith}
 use lib.ListN.{length-set, length-map}
 use Rattle.position.specs.Board.{checkers, Accepted, refusalOf}
-use Rattle.inputs.specs.Inputs.{whole, inputsOf, contactInputs}
+use Rattle.inputs.specs.Inputs.{bits, inputsOf, contactInputs}
 use Rattle.inputs.specs.Answers.{contactSize, contactAnswer, contactLent}
 use Rattle.inputs.proofs.Stores.{sets-all}
 use Rattle.inputs.proofs.Answers.{fill-board, fill-13, fill-done}
@@ -38,14 +38,14 @@ returns-2 c =
     let a = c .before .before .before .before .before .args in
     fill-13 (refusalOf checkers (a .b .now)) contactSize (contactInputs checkers (a .b .now)) (a .out .now) (ok (c .before)) (c .if2 .taken)
 
-off-requires : tie.Need-off-requires
-off-requires c κs = omega (arith, c .before .before .check .ensures .x, accepted (c .before) .x-most)
+off-bits-requires : tie.Need-off-bits-requires
+off-bits-requires c κs = omega (arith, c .before .before .check .ensures .x, accepted (c .before) .x-most)
 
 slice-write-out : tie.Need-slice-write-out
 slice-write-out c = search needs
 
-off-requires-2 : tie.Need-off-requires-2
-off-requires-2 c κs = omega (arith, c .before .before .before .check .ensures .o, accepted (c .before .before) .o-most)
+off-bits-requires-2 : tie.Need-off-bits-requires-2
+off-bits-requires-2 c κs = omega (arith, c .before .before .before .check .ensures .o, accepted (c .before .before) .o-most)
 
 slice-write-out-2 : tie.Need-slice-write-out-2
 slice-write-out-2 c = simp length-set (omega (arith, c .before .before .if2 .left))
@@ -68,10 +68,10 @@ returns-3 c =
     let k = d .before .before .check .ensures in
     let e = d .if2 .left in
     let r = fill-done (refusalOf checkers b) contactSize (contactInputs checkers b) o (ok (d .before)) e in
-    let x = c .before .before .before .before .before .off .ensures ∙ ap (λ (n : ℕ). whole (checkers - n)) (k .x) in
-    let y = c .before .before .before .before .off2 .ensures ∙ ap (λ (n : ℕ). whole (checkers - n)) (k .o) in
-    let l = length-map (contactInputs checkers b) whole ∙ contact-all checkers b ∙ sym e in
-    (r .0, c .before .before .put-contact .ensures ∙ rw (x, y) (sets-all o (map whole (contactInputs checkers b)) l ∙ r .1))
+    let x = c .before .before .before .before .before .off-bits .ensures ∙ ap (λ (n : ℕ). bits (checkers - n)) (k .x) in
+    let y = c .before .before .before .before .off-bits2 .ensures ∙ ap (λ (n : ℕ). bits (checkers - n)) (k .o) in
+    let l = length-map (contactInputs checkers b) bits ∙ contact-all checkers b ∙ sym e in
+    (r .0, c .before .before .put-contact .ensures ∙ rw (x, y) (sets-all o (map bits (contactInputs checkers b)) l ∙ r .1))
 
 pub contact-inputs-spec : {M : Type 1} → statement M
 contact-inputs-spec =
@@ -80,9 +80,9 @@ contact-inputs-spec =
     check-requires
     returns
     returns-2
-    off-requires
+    off-bits-requires
     slice-write-out
-    off-requires-2
+    off-bits-requires-2
     slice-write-out-2
     put-contact-requires
     same-length

@@ -7,7 +7,7 @@ use lib.ListN.{length}
 use lib.Seq.{sets}
 use Rattle.ints.specs.Sums.{values}
 use Rattle.position.specs.Board.{os}
-use Rattle.inputs.specs.Inputs.{whole, four, fours}
+use Rattle.inputs.specs.Inputs.{bits, four, fours}
 use Rattle.inputs.proofs.Own.{o-fits, o-own}
 use Rattle.inputs.proofs.Stores.{row-stored}
 use Rattle.inputs.proofs.put_o.Statement.{statement}
@@ -17,7 +17,7 @@ abbrev Inv-loop : tie.InvT-loop
 Inv-loop table b first n out₀ i k₀ out k =
     (k ≤ n)
     × (length out ≡ length out₀)
-    × (sets out (i + 4 * k) (map whole (fours (values (os b) (first + k) (n - k)))) ≡ sets out₀ i (map whole (fours (values (os b) first n))))
+    × (sets out (i + 4 * k) (map bits (fours (values (os b) (first + k) (n - k)))) ≡ sets out₀ i (map bits (fours (values (os b) first n))))
 
 abbrev μ-loop : tie.MeasureT-loop
 μ-loop table b first n out₀ i k₀ out k = n - k
@@ -36,20 +36,20 @@ mul-put-row c = let p = c .before .before .before .before .pre in omega arith
 add-put-row : tie.Need-add-put-row Inv-loop μ-loop
 add-put-row c = let p = c .before .before .before .before .pre in omega arith
 
-add-td-inputs : tie.Need-add-td-inputs Inv-loop μ-loop
-add-td-inputs c = let p = c .before .before .before .before .pre in omega arith
+add-td-bits : tie.Need-add-td-bits Inv-loop μ-loop
+add-td-bits c = let p = c .before .before .before .before .pre in omega arith
 
-element-copy-out-td-inputs : tie.Need-element-copy-out-td-inputs Inv-loop μ-loop
-element-copy-out-td-inputs c = let p = c .before .before .before .before .pre in omega arith
+element-copy-out-td-bits : tie.Need-element-copy-out-td-bits Inv-loop μ-loop
+element-copy-out-td-bits c = let p = c .before .before .before .before .pre in omega arith
 
-sub-td-inputs : tie.Need-sub-td-inputs Inv-loop μ-loop
-sub-td-inputs c =
+sub-td-bits : tie.Need-sub-td-bits Inv-loop μ-loop
+sub-td-bits c =
     let s = c .before .before .before .before .before in
     let p = s .pre in
     o-fits (p .0 .1) (s .args .first + c .before .before .before .loop .k) (omega arith)
 
-td-inputs-requires : tie.Need-td-inputs-requires Inv-loop μ-loop
-td-inputs-requires c κs =
+td-bits-requires : tie.Need-td-bits-requires Inv-loop μ-loop
+td-bits-requires c κs =
     let s = c .before .before .before .before .before in
     let p = s .pre in
     let w = o-own (p .0 .1) (s .args .first + c .before .before .before .loop .k) (omega arith) in
@@ -74,8 +74,8 @@ loop-again c =
     let w = o-own (p .0 .1) (a .first + l .k) (omega arith) in (
       omega arith,
       c .before .before .put-row .kept .0 ∙ l .inv .1,
-      row-stored (os (a .b .now)) (l .out) (c .before .before .put-row .last .0) (a .i) (a .first) (a .n) (l .k) (d .td-inputs .result) (omega arith)
-          (c .before .before .put-row .ensures) (d .td-inputs .ensures ∙ ap (λ (n : ℕ). map whole (four n)) (w .is))
+      row-stored (os (a .b .now)) (l .out) (c .before .before .put-row .last .0) (a .i) (a .first) (a .n) (l .k) (d .td-bits .result) (omega arith)
+          (c .before .before .put-row .ensures) (d .td-bits .ensures ∙ ap (λ (n : ℕ). map bits (four n)) (w .is))
           ∙ l .inv .2,
     )
 
@@ -99,10 +99,10 @@ put-o-spec =
     loop-holds
     mul-put-row
     add-put-row
-    add-td-inputs
-    element-copy-out-td-inputs
-    sub-td-inputs
-    td-inputs-requires
+    add-td-bits
+    element-copy-out-td-bits
+    sub-td-bits
+    td-bits-requires
     put-row-requires
     add-k
     loop-less

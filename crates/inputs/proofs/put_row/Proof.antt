@@ -2,7 +2,6 @@
 use mathlib.Core.Path.{_≡_, sym, ap}
 use Prim.Native.Nat.{suc, _+_}
 use native.Mathlib.Omega.{arith}
-use lib.Ieee.{nan}
 use lib.ListN.{length-set}
 use lib.Seq.{sets}
 use Rattle.inputs.proofs.Stores.{row-is}
@@ -64,7 +63,7 @@ returns c =
     let a : i + 1 ≡ suc i = omega arith in
     let b : i + 2 ≡ suc (suc i) = omega arith in
     let d : i + 3 ≡ suc (suc (suc i)) = omega arith in
-    rw (a, b, d) (sym (ap (sets (c .args .out .now) i) (row-is (c .args .t3) nan (c .good .1 .1 .0 .1 .0 .1))))
+    rw (a, b, d) (sym (ap (sets (c .args .out .now) i) (row-is (c .args .t3) 0 (c .good .1 .1 .0 .1 .0 .1))))
 
 pub put-row-spec : {M : Type 1} → statement M
 put-row-spec =

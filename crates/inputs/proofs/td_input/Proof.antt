@@ -7,8 +7,8 @@ use lib.ListN.{getD}
 use mir.Syntax.{w8}
 use Rattle.ints.specs.Signed.{posPart}
 use Rattle.ints.proofs.Signed.{held-is}
-use Rattle.inputs.specs.Inputs.{four}
-use Rattle.inputs.proofs.Floats.{getD-whole}
+use Rattle.inputs.specs.Inputs.{whole, four}
+use Rattle.inputs.proofs.Floats.{mapped-at}
 use borrow.Author.Needs.{needs}
 use Rattle.inputs.proofs.td_input.Statement.{statement}
 use Rattle.inputs.proofs.td_input.Tie as tie
@@ -30,7 +30,7 @@ returns c =
     let s = c .before .before .before in
     let j = s .args .j in
     let e = held-is w8 (s .args .own) (s .fits .own .sfits) in
-    ap (λ (x : List Float). getD x j nan) (rw e at (c .td-inputs .ensures)) ∙ getD-whole (four (posPart (s .args .own))) j nan (omega (arith, s .pre .2))
+    ap (λ (x : List Float). getD x j nan) (rw e at (c .td-inputs .ensures)) ∙ mapped-at whole (four (posPart (s .args .own))) j nan (omega (arith, s .pre .2))
 
 pub td-input-spec : {M : Type 1} → statement M
 td-input-spec =

@@ -1,4 +1,8 @@
 -- `munchalep::munchalep_contact_input` meets its contract: it hands over what the crate `inputs` answers.
+use mathlib.Core.Path.{sym, subst}
+use lib.Dec.{T}
+use Rattle.inputs.specs.Answers.{InputAnswer, isNumber}
+use Rattle.inputs.proofs.Exact.{contact-input-number}
 use Rattle.munchalep.proofs.Handing.{handed-input}
 use borrow.Author.Needs.{needs}
 use Rattle.munchalep.proofs.munchalep_contact_input.Statement.{statement}
@@ -8,7 +12,7 @@ contact-input-requires : tie.Need-contact-input-requires
 contact-input-requires c κs = search needs
 
 put-input-requires : tie.Need-put-input-requires
-put-input-requires c κs = search needs
+put-input-requires c κs = subst (λ (a : InputAnswer). T (isNumber a)) (sym (c .before .contact-input .ensures)) ?
 
 returns : tie.Need-returns
 returns c = handed-input (c .put-input .ensures) (c .before .before .contact-input .ensures)

@@ -1,4 +1,8 @@
 -- `munchalep::munchalep_race_input` meets its contract: it hands over what the crate `inputs` answers.
+use mathlib.Core.Path.{sym, subst}
+use lib.Dec.{T}
+use Rattle.inputs.specs.Answers.{InputAnswer, isNumber}
+use Rattle.inputs.proofs.Exact.{race-input-number}
 use Rattle.munchalep.proofs.Handing.{handed-input}
 use borrow.Author.Needs.{needs}
 use Rattle.munchalep.proofs.munchalep_race_input.Statement.{statement}
@@ -8,7 +12,7 @@ race-input-requires : tie.Need-race-input-requires
 race-input-requires c κs = search needs
 
 put-input-requires : tie.Need-put-input-requires
-put-input-requires c κs = search needs
+put-input-requires c κs = subst (λ (a : InputAnswer). T (isNumber a)) (sym (c .before .race-input .ensures)) ?
 
 returns : tie.Need-returns
 returns c = handed-input (c .put-input .ensures) (c .before .before .race-input .ensures)
