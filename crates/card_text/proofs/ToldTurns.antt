@@ -8,7 +8,7 @@ use borrow.Author.Tests.{lt-ltb, le-ltb, ne-eqb}
 use lib.IntN.{ℤ}
 use lib.ListN.{length, getD, drop, length-drop}
 use lib.Seq.{getD-drop}
-use Rattle.ints.specs.Answer.{Answer, value, refused, carried}
+use Rattle.ints.specs.Answer.{value, refused, carried}
 use Rattle.ints.specs.Bits.{Bytes}
 use Rattle.dice.proofs.TwoDice.{die-test}
 use Rattle.position.specs.Board.{checkers, Accepted, xAll, oAll, refusalOf}
@@ -25,6 +25,7 @@ use Rattle.moves.specs.Answers.{playRefusal, endsCount, countAnswer, endRefusal
 use Rattle.key.specs.Key.{boardOfKeyAnswer}
 use Rattle.card.specs.Game.{turnsMost}
 use Rattle.card.specs.Read.{larger, smaller, endNumber, startKey, turnAt, turnRefusal, afterTurn, boardAfter, readAnswer}
+use Rattle.card.proofs.Records.{no-value}
 use Rattle.card.proofs.Turns.{Fine, not-finished, unrefused-fine, larger-is-die, smaller-is-die, next-accepted, turnOf, told-roll, told-legal, told-after}
 use Rattle.card.proofs.TurnRead.{playable}
 use Rattle.card.proofs.Starts.{Begun, unrefused-begun, begun-accepted, begun-unfinished}
@@ -48,14 +49,6 @@ end-oAll n b d1 d2 e a l = play-oAll n (l .used) (diceRolled d1 d2) b e a (l .pl
 
 -- ---- the number of ends
 
-isValue : Answer → ℕ
-isValue (value k) = 1
-isValue (refused k j) = 0
-
-refused-value : {k j i : ℕ} → refused k j ≡ value i → ⊥
-unfolding isValue
-refused-value e = let h : _≡_ {A = ℕ} 0 1 = ap isValue e in omega arith
-
 module _ (n : ℕ) (b : List ℤ) (d1 d2 : ℕ) (z : playRefusal n b d1 d2 ≡ 0) where
   counted : countAnswer n b d1 d2 ≡ value (endsCount b d1 d2)
   unfolding countAnswer
@@ -65,7 +58,7 @@ module _ (n : ℕ) (b : List ℤ) (d1 d2 : ℕ) (z : playRefusal n b d1 d2 ≡ 0
   count-number e = ap carried (e ∙ counted)
 
   pub count-unrefused : {k : ℕ} → refused k 0 ≡ countAnswer n b d1 d2 → ⊥
-  count-unrefused e = refused-value (e ∙ counted)
+  count-unrefused e = no-value (e ∙ counted)
 
 -- ---- the number of result and phase
 
@@ -81,7 +74,7 @@ module _ (b : List ℤ) (h : HasPhase b) where
   phase-number e = ap carried (e ∙ has-phase)
 
   pub phase-unrefused : {k : ℕ} → refused k 0 ≡ phaseAnswer checkers b → ⊥
-  phase-unrefused e = refused-value (e ∙ has-phase)
+  phase-unrefused e = no-value (e ∙ has-phase)
 
 -- ---- a turn
 
