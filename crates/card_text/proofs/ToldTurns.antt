@@ -2,29 +2,27 @@
 -- Assumes nothing.
 use mathlib.Core.Path.{_≡_, sym, ap, subst, _∙_}
 use mathlib.Core.List.{List}
-use Prim.Native.Nat.{ℕ, zero, suc, _+_, _*_, _≤_, _<_}
+use Prim.Native.Nat.{ℕ, _+_, _*_, _≤_, _<_}
 use native.Mathlib.Omega.{arith}
 use borrow.Author.Tests.{lt-ltb, le-ltb, ne-eqb}
 use lib.IntN.{ℤ}
 use lib.ListN.{length, getD, drop, length-drop}
 use lib.Seq.{getD-drop}
-use Rattle.ints.specs.Answer.{Answer, value, refused, carried}
+use Rattle.ints.specs.Answer.{value, refused, carried}
 use Rattle.ints.specs.Bits.{Bytes}
 use Rattle.dice.proofs.TwoDice.{die-test}
 use Rattle.position.specs.Board.{checkers, Accepted, xAll, oAll, refusalOf}
-use Rattle.position.specs.Step.{stepped}
 use Rattle.position.specs.Answers.{boardAnswer}
 use Rattle.position.specs.declared.BoardAnswer.{BoardAnswer}
 use Rattle.position.specs.Phase.{phaseOf, phaseAnswer}
 use Rattle.position.proofs.Boards.{accepted-unrefused}
 use Rattle.position.proofs.SideSwitch.{switched-xAll}
-use Rattle.position.proofs.Steps.{accepted-good, test-legal, step-accepted, step-oAll}
-use Rattle.rules.specs.Plays.{diceRolled, Play, LegalEnd}
-use Rattle.rules.proofs.Plays.{play-first}
+use Rattle.rules.proofs.Accepted.{end-oAll}
 use Rattle.moves.specs.Answers.{playRefusal, endsCount, countAnswer, endRefusal, endAnswer}
 use Rattle.key.specs.Key.{boardOfKeyAnswer}
 use Rattle.card.specs.Game.{turnsMost}
 use Rattle.card.specs.Read.{larger, smaller, endNumber, startKey, turnAt, turnRefusal, afterTurn, boardAfter, readAnswer}
+use Rattle.card.proofs.Records.{no-value}
 use Rattle.card.proofs.Turns.{Fine, not-finished, unrefused-fine, larger-is-die, smaller-is-die, next-accepted, turnOf, told-roll, told-legal, told-after}
 use Rattle.card.proofs.TurnRead.{playable}
 use Rattle.card.proofs.Starts.{Begun, unrefused-begun, begun-accepted, begun-unfinished}
@@ -32,29 +30,7 @@ use Rattle.card.proofs.Refusals.{EndsAfter, read-exactly}
 use Rattle.card_text.specs.declared.Turn.{Turn}
 use Rattle.card_text.specs.Turns.{HasPhase, ToldTurn}
 
--- ---- a play keeps o's checkers
-
-play-oAll : (n k : ℕ) (ds : List ℕ) (b e : List ℤ) → Accepted n b → Play k ds b e → oAll e ≡ oAll b
-play-oAll n zero ds b e a q = rw q
-play-oAll n (suc k) ds b e a y =
-    let r = play-first k ds b e y in
-    let p = r .3 .0 in
-    let d = r .0 in
-    let l = test-legal b p d (r .3 .1) in
-    play-oAll n k (r .1) (stepped b p d) e (step-accepted n b p d a l) (r .3 .2) ∙ step-oAll b p d (accepted-good a) l
-
-end-oAll : (n : ℕ) (b : List ℤ) (d1 d2 : ℕ) (e : List ℤ) → Accepted n b → LegalEnd b d1 d2 e → oAll e ≡ oAll b
-end-oAll n b d1 d2 e a l = play-oAll n (l .used) (diceRolled d1 d2) b e a (l .play)
-
 -- ---- the number of ends
-
-isValue : Answer → ℕ
-isValue (value k) = 1
-isValue (refused k j) = 0
-
-refused-value : {k j i : ℕ} → refused k j ≡ value i → ⊥
-unfolding isValue
-refused-value e = let h : _≡_ {A = ℕ} 0 1 = ap isValue e in omega arith
 
 module _ (n : ℕ) (b : List ℤ) (d1 d2 : ℕ) (z : playRefusal n b d1 d2 ≡ 0) where
   counted : countAnswer n b d1 d2 ≡ value (endsCount b d1 d2)
@@ -65,7 +41,7 @@ module _ (n : ℕ) (b : List ℤ) (d1 d2 : ℕ) (z : playRefusal n b d1 d2 ≡ 0
   count-number e = ap carried (e ∙ counted)
 
   pub count-unrefused : {k : ℕ} → refused k 0 ≡ countAnswer n b d1 d2 → ⊥
-  count-unrefused e = refused-value (e ∙ counted)
+  count-unrefused e = no-value (e ∙ counted)
 
 -- ---- the number of result and phase
 
@@ -81,7 +57,7 @@ module _ (b : List ℤ) (h : HasPhase b) where
   phase-number e = ap carried (e ∙ has-phase)
 
   pub phase-unrefused : {k : ℕ} → refused k 0 ≡ phaseAnswer checkers b → ⊥
-  phase-unrefused e = refused-value (e ∙ has-phase)
+  phase-unrefused e = no-value (e ∙ has-phase)
 
 -- ---- a turn
 

@@ -1,6 +1,6 @@
 -- The text of the card that document 01 prints, and of a refused one.
 use mathlib.Core.Path.{_≡_, refl}
-use mathlib.Core.List.{List, [], _∷_, _++_}
+use mathlib.Core.List.{List, [], _∷_}
 use Prim.Native.Nat.{ℕ}
 use lib.ListN.{take}
 use Rattle.ints.specs.Bits.{bitsOf, bytesOf, some}

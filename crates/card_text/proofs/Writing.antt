@@ -44,20 +44,6 @@ two-digits out from n {v} {w} e f =
     rw (← e, ← f)
     (wrote-more (v ∷ []) (w ∷ []) (wrote-byte out from v (from + 1) refl) (wrote-byte (set out from v) (from + 1) w (from + 2) (omega arith)))
 
--- ---- a word, byte by byte
-
-pub word-start : (out : List ℕ) (from : ℕ) → Wrote out from [] (from + 0) out
-word-start out from = record { next = omega arith; lent = refl }
-
-pub word-next : (word : List ℕ) (i : ℕ) → i < length word → {out new : List ℕ} {from : ℕ} → Wrote out from (take i word) (from + i) new
-    → Wrote out from (take (i + 1) word) (from + (i + 1)) (set new (from + i) (getD word i 0))
-word-next word i h {new = new} {from} w =
-    rw (add-one, take-suc word i 0 h)
-    (wrote-more (take i word) (getD word i 0 ∷ []) w (wrote-byte new (from + i) (getD word i 0) (from + suc i) (omega arith)))
-
-pub word-end : (word : List ℕ) (i : ℕ) → length word ≤ i → {out new : List ℕ} {from to : ℕ} → Wrote out from (take i word) to new → Wrote out from word to new
-word-end word i k {out} {new} {from} {to} w = subst (λ l. Wrote out from l to new) (take-all i word k) w
-
 -- ---- a key in hex, byte by byte
 
 pub hex-start : (out : List ℕ) (from : ℕ) → Wrote out from (hex []) from out

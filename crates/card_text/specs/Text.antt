@@ -3,7 +3,6 @@ use mathlib.Core.Bool.{cond}
 use mathlib.Core.List.{List, [], _∷_, _++_}
 use Prim.Native.Nat.{ℕ, zero, suc, _+_, _*_, _/_, _%_}
 use lib.Dec.{ltb}
-use lib.IntN.{ℤ}
 use lib.ListN.{length, getD, drop}
 use Rattle.ints.specs.Answer.{Answer, value, refused}
 use Rattle.position.specs.Phase.{phaseOf}

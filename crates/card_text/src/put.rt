@@ -1,4 +1,5 @@
 // Pieces of text put into lent memory, each from a place on; the place after it is answered.
+use card::writer;
 ghost use mathlib.Core.Path.{_≡_};
 ghost use mathlib.Core.List.{[], _∷_};
 ghost use Prim.Native.Nat.{_+_, _≤_, _<_};
@@ -11,12 +12,8 @@ pub fn put_word(out: &mut [u8], at: usize, word: &[u8]) -> usize
     requires { ⌜ at + length (now word) ≤ length (now out) ⌝ }
     ensures { λ r. ⌜ Wrote (now (out .entry)) at (now (word .entry)) r (now (out .exit)) ⌝ }
 {
-    let mut i = 0;
-    while i < word.len() {
-        out[at + i] = word[i];
-        i += 1;
-    }
-    at + i
+    writer::put(out, at, word);
+    at + word.len()
 }
 
 // The bytes of a key in hex.

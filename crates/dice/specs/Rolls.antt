@@ -1,5 +1,5 @@
 -- The dice byte, the 21 rolls and the 441 pairs of rolls. The contracts of `roll` and `pair` cite `rolls` and `pairs`.
-use mathlib.Core.List.{List, [], _∷_, _++_}
+use mathlib.Core.List.{List, _∷_, _++_}
 use Prim.Native.Nat.{ℕ, suc, _+_, _-_, _*_, _/_, _%_}
 use lib.ListN.{getD}
 use Rattle.ints.specs.Sums.{values}

@@ -42,11 +42,6 @@ by-head e c l P f g = go (sameBoard e c) refl
     go true q = f (sameBoard-is e c q)
     go false q = g (λ z. let y : true ≡ false = sym (sameBoard-self c) ∙ (rw z at q) in let x : _≡_ {A = ℕ} 0 1 = cc in omega arith)
 
-pub place-most : (e : List ℤ) (l : Boards) → place e l ≤ length l
-unfolding place
-place-most e [] = omega arith
-place-most e (c ∷ l) = by-head e c l (λ n. n ≤ suc (length l)) (λ q. omega arith) (λ q. omega (arith, place-most e l))
-
 -- ---- a list looked through from a number on
 
 module _ (e : List ℤ) where

@@ -3,16 +3,13 @@ use mathlib.Core.Path.{_≡_, refl}
 use mathlib.Core.List.{List, [], _∷_, _++_, map}
 use Prim.Native.Nat.{ℕ}
 use lib.Ieee.{toBits}
-use lib.IntN.{ℤ, pos, negsuc}
-use lib.ListN.{replicate, set}
+use lib.ListN.{replicate}
 use Rattle.ints.specs.Answer.{value, refused}
 use Rattle.ints.specs.Sums.{sumTo, values}
 use Rattle.position.specs.Board.{checkers, start, refusalOf}
+use Rattle.position.specs.Words.{blank, x, o}
 use Rattle.inputs.specs.Inputs.{whole, bits, fours, contactCounts, raceCounts, inputsOf, contactInputs, raceInputs}
 use Rattle.inputs.specs.Answers.{given, not, fillAnswer, placeAnswer, contactAnswer, contactInput, raceAnswer, raceInput}
-
-abbrev empty : List ℤ
-empty = replicate 26 (pos 0)
 
 -- points without checkers, and one with two, three or five
 abbrev none : ℕ → List ℕ
@@ -43,12 +40,12 @@ unfolding raceInputs inputsOf raceCounts values fours sumTo
 start-race = refl
 
 -- fifteen on x's bar, one on o's
-bars : contactInputs checkers (set (set empty 25 (pos 15)) 0 (negsuc 0)) ≡ 0 ∷ 14 ∷ 0 ∷ 0 ∷ 1 ∷ 12 ∷ none 96 ++ 1 ∷ none 99
+bars : contactInputs checkers (o 0 1 (x 25 15 blank)) ≡ 0 ∷ 14 ∷ 0 ∷ 0 ∷ 1 ∷ 12 ∷ none 96 ++ 1 ∷ none 99
 unfolding contactInputs inputsOf contactCounts values fours sumTo
 bars = refl
 
 -- the empty board is taken: all are off
-empty-taken : (contactAnswer checkers empty 202 ≡ value 0) × (contactInput checkers empty 1 ≡ given (whole 15))
+empty-taken : (contactAnswer checkers blank 202 ≡ value 0) × (contactInput checkers blank 1 ≡ given (whole 15))
 unfolding contactAnswer fillAnswer contactInput placeAnswer contactInputs inputsOf refusalOf sumTo
 empty-taken = (refl, refl)
 
@@ -57,8 +54,8 @@ refusals : (contactAnswer checkers start 186 ≡ refused 13 0)
     × (raceAnswer checkers start 202 ≡ refused 13 0)
     × (contactInput checkers start 202 ≡ not 14)
     × (raceInput checkers start 186 ≡ not 14)
-    × (contactAnswer checkers (set empty 6 (pos 16)) 0 ≡ refused 1 0)
-    × (raceInput checkers (set empty 0 (pos 1)) 186 ≡ not 4)
+    × (contactAnswer checkers (x 6 16 blank) 0 ≡ refused 1 0)
+    × (raceInput checkers (x 0 1 blank) 186 ≡ not 4)
 unfolding contactAnswer raceAnswer fillAnswer contactInput raceInput placeAnswer refusalOf sumTo
 refusals = (refl, refl, refl, refl, refl, refl)
 

@@ -55,10 +55,6 @@ digits-or n m j h = ext-getD false (digits n (bitOr m (2 ^ j))) (set (digits n m
 
 -- ---- the number of a list of bits
 
-pub number-cons : (b : Bool) (l : List Bool) → number (b ∷ l) ≡ number l * 2 + digit b
-unfolding number
-number-cons b l = refl
-
 pub number-lt : (l : List Bool) → number l < 2 ^ length l
 unfolding number
 number-lt [] = omega arith

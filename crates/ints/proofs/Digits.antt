@@ -5,9 +5,9 @@ use mathlib.Core.Logic.{_⊎_, inl, inr}
 use Prim.Native.Nat.{ℕ, zero, suc, _+_, _-_, _*_, _/_, _%_, _^_, _<_, _≤_}
 use native.Mathlib.Nat.{div-eq-of-lt, div-eq-of-lt-le, mod-lt, mul-assoc, pow-suc}
 use native.Mathlib.Omega.{arith}
-use borrow.Author.Tests.{eq-eqb, ne-eqb, eqb-true, lt-ltb, le-ltb, le-leb, lt-leb}
+use borrow.Author.Tests.{eq-eqb, ne-eqb, eqb-true, lt-ltb, le-ltb}
 use lib.Bits.{bitAnd, bitOr, bitXor, and-mask, and-shr, or-shr, xor-shr, and-mod, or-mod, xor-mod, shifted-even}
-use lib.Dec.{ltb, leb, eqb, eqb·zero-suc, eqb·suc-zero, eqb·suc-suc}
+use lib.Dec.{ltb, eqb, eqb·zero-suc, eqb·suc-zero, eqb·suc-suc}
 use lib.Pow.{pow-mono, pow-pos, pow-add, shl-shr, shl-exact, shr-shr, field, mod-mod-pow}
 use Rattle.ints.specs.Bits.{bit, digit}
 use Rattle.ints.proofs.Tests.{lt-or-le}
@@ -105,13 +105,6 @@ bit-shl-lt a d i h =
     ap (λ (n : ℕ). a * 2 ^ n / 2 ^ i) (sym e) ∙ ap (λ (n : ℕ). a * n / 2 ^ i) (pow-add 2 (suc k) i)
     ∙ ap (λ (n : ℕ). n / 2 ^ i) (sym (mul-assoc a (2 ^ suc k) (2 ^ i))) ∙ shl-shr (a * 2 ^ suc k) i in
     ap (λ (x : ℕ). eqb (x % 2) 1) q ∙ ap (λ (x : ℕ). eqb x 1) (shifted-even a k)
-
-pub bit-shl : (a d i : ℕ) → bit (a * 2 ^ d) i ≡ (leb d i && bit a (i - d))
-bit-shl a d i = go (lt-or-le i d)
-  where
-    go : (i < d) ⊎ (d ≤ i) → bit (a * 2 ^ d) i ≡ (leb d i && bit a (i - d))
-    go (inl l) = rw (lt-leb d i l) (bit-shl-lt a d i l)
-    go (inr l) = rw (le-leb d i l) (bit-shl-ge a d i l)
 
 pub bit-mod-lt : (n k i : ℕ) → i < k → bit (n % 2 ^ k) i ≡ bit n i
 bit-mod-lt n k i h =

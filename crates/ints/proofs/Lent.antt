@@ -4,30 +4,20 @@ use mathlib.Core.Bool.{Bool, true, false, cond, _&&_}
 use mathlib.Core.List.{List, [], _∷_, _++_, map, flatten, append-assoc, append-cancel-left, append-nil}
 use mathlib.Core.Logic.{_⊎_, inl, inr}
 use Prim.Native.Nat.{ℕ, zero, suc, _+_, _-_, _*_, _/_, _<_, _≤_}
-use native.Mathlib.Nat.{add-mul, div-eq-of-lt, div-mul-le-self, div-self, eq-or-lt-of-le, le-div-iff-mul-le, mul-le-mul-right, suc-mul, zero-mul}
+use native.Mathlib.Nat.{add-mul, div-mul-le-self, div-self, eq-or-lt-of-le, le-div-iff-mul-le, mul-le-mul-right, suc-mul, zero-mul}
 use native.Mathlib.Numerals.{add-one}
 use native.Mathlib.Omega.{arith}
 use borrow.Author.Tests.{le-leb, lt-leb, lt-ltb, le-ltb}
 use lib.Dec.{leb, ltb}
 use lib.ListN.{length, getD, set, take, drop, length-append, take-append-drop}
-use lib.Seq.{drop-cons, sets, sets-eq, length-sets, getD-set-other, set-set, set-comm, take-at, take-set-le, take-add, take-all, drop-append-add, drop-drop, length-take-le}
+use lib.Seq.{drop-cons, sets, sets-eq, length-sets, set-set, set-comm, take-at, take-set-le, take-add, take-all, drop-append-add, drop-drop, length-take-le}
 use Rattle.ints.specs.Lent.{Records, store, written}
-use Rattle.ints.proofs.Tests.{lt-or-le}
 
 -- ---- records
-
-pub records-append : (w : ℕ) (es fs : List (List ℕ)) → Records w es → Records w fs → Records w (es ++ fs)
-records-append w [] fs r s = s
-records-append w (e ∷ es) fs r s = (r .0, records-append w es fs (r .1) s)
 
 pub records-map : {A : Type 0} (w : ℕ) (f : A → List ℕ) (xs : List A) → ((x : A) → length (f x) ≡ w) → Records w (map f xs)
 records-map w f [] h = tt
 records-map w f (x ∷ xs) h = (h x, records-map w f xs h)
-
-pub length-flatten : (w : ℕ) (es : List (List ℕ)) → Records w es → length (flatten es) ≡ length es * w
-unfolding flatten
-length-flatten w [] r = omega arith
-length-flatten w (e ∷ es) r = length-append e (flatten es) ∙ omega (arith, length-flatten w es (r .1), suc-mul (length es) w)
 
 -- ---- a run of bytes
 
@@ -42,16 +32,6 @@ sets-next o at i xs h =
     let q : at + (i + 1) ≡ at + i + 1 = omega arith in
     let d : drop i xs ≡ getD xs i 0 ∷ drop (i + 1) xs = rw add-one (drop-cons xs i 0 h) in
     rw q (sets-step o (at + i) (getD xs i 0) (drop (i + 1) xs) ∙ ap (sets o (at + i)) (sym d))
-
-pub getD-sets-below : (o : List ℕ) (at : ℕ) (xs : List ℕ) (i d : ℕ) → i < at → getD (sets o at xs) i d ≡ getD o i d
-getD-sets-below o at [] i d h = refl
-getD-sets-below o at (x ∷ xs) i d h =
-    getD-sets-below (set o at x) (suc at) xs i d (omega arith) ∙ getD-set-other o at i x d (λ e. omega arith)
-
-pub getD-sets-past : (o : List ℕ) (at : ℕ) (xs : List ℕ) (i d : ℕ) → at + length xs ≤ i → getD (sets o at xs) i d ≡ getD o i d
-getD-sets-past o at [] i d h = refl
-getD-sets-past o at (x ∷ xs) i d h =
-    getD-sets-past (set o at x) (suc at) xs i d (omega arith) ∙ getD-set-other o at i x d (λ e. omega arith)
 
 -- a byte stored before a run of others, and one of the run stored anew
 set-before-sets : (o : List ℕ) (at : ℕ) (xs : List ℕ) (i v : ℕ) → i < at → set (sets o at xs) i v ≡ sets (set o i v) at xs
@@ -96,28 +76,12 @@ pub store-before : (w : ℕ) (o : List ℕ) (from n : ℕ) (e : List ℕ) → n 
 unfolding store
 store-before w o from n e h = rw (lt-leb from n h)
 
--- bytes before the record's slot, after it, and after the last whole slot
-getD-store : (w : ℕ) (o : List ℕ) (from n : ℕ) (e : List ℕ) (i d : ℕ)
-    → (from ≤ n → n - from < length o / w → getD (sets o ((n - from) * w) e) i d ≡ getD o i d) → getD (store w o from n e) i d ≡ getD o i d
-getD-store w o from n e i d h = go (lt-or-le n from) (lt-or-le (n - from) (length o / w))
-  where
-    go : (n < from) ⊎ (from ≤ n) → (n - from < length o / w) ⊎ (length o / w ≤ n - from) → getD (store w o from n e) i d ≡ getD o i d
-    go (inl a) b = ap (λ (l : List ℕ). getD l i d) (store-before w o from n e a)
-    go (inr a) (inl b) = ap (λ (l : List ℕ). getD l i d) (store-in w o from n e a b) ∙ h a b
-    go (inr a) (inr b) = ap (λ (l : List ℕ). getD l i d) (store-past w o from n e b)
-
 -- ---- all records
 
 pub length-written : (w : ℕ) (o : List ℕ) (from n : ℕ) (es : List (List ℕ)) → length (written w o from n es) ≡ length o
 unfolding written
 length-written w o from n [] = refl
 length-written w o from n (e ∷ es) = length-written w (store w o from n e) from (suc n) es ∙ length-store w o from n e
-
--- a loop's turn: one record stored, the others still to come
-pub written-step : (w : ℕ) (o new : List ℕ) (from n : ℕ) (e : List ℕ) (es : List (List ℕ)) → new ≡ store w o from n e
-    → written w new from (n + 1) es ≡ written w o from n (e ∷ es)
-unfolding written
-written-step w o new from n e es h = rw (h, add-one)
 
 pub written-append : (w : ℕ) (o : List ℕ) (from n : ℕ) (es fs : List (List ℕ))
     → written w o from n (es ++ fs) ≡ written w (written w o from n es) from (n + length es) fs
@@ -127,7 +91,7 @@ written-append w o from n (e ∷ es) fs =
     let q : suc n + length es ≡ n + suc (length es) = omega arith in
     written-append w (store w o from n e) from (suc n) es fs ∙ rw q
 
--- records that all lie before the window, or past it, or that no slot is there for
+-- records that all lie before the window, or past it
 pub written-before : (w : ℕ) (o : List ℕ) (from n : ℕ) (es : List (List ℕ)) → n + length es ≤ from → written w o from n es ≡ o
 unfolding written
 written-before w o from n [] h = refl
@@ -137,46 +101,6 @@ pub written-past : (w : ℕ) (o : List ℕ) (from n : ℕ) (es : List (List ℕ)
 unfolding written
 written-past w o from n [] l = refl
 written-past w o from n (e ∷ es) l = rw (store-past w o from n e l) (written-past w o from (suc n) es (omega arith))
-
-pub written-none : (w : ℕ) (o : List ℕ) (from n : ℕ) (es : List (List ℕ)) → length o < w → written w o from n es ≡ o
-written-none w o from n es h =
-    let z : length o / w ≡ 0 = div-eq-of-lt h in
-    written-past w o from n es (omega arith)
-
--- ---- bytes that stay
-
--- before the first record's slot
-pub getD-written-below : (w : ℕ) (o : List ℕ) (from n : ℕ) (es : List (List ℕ)) (i d : ℕ) → i < (n - from) * w
-    → getD (written w o from n es) i d ≡ getD o i d
-unfolding written
-getD-written-below w o from n [] i d h = refl
-getD-written-below w o from n (e ∷ es) i d h =
-    let m : (n - from) * w ≤ (suc n - from) * w = mul-le-mul-right w (omega arith) in
-    getD-written-below w (store w o from n e) from (suc n) es i d (omega arith)
-    ∙ getD-store w o from n e i d (λ a b. getD-sets-below o ((n - from) * w) e i d h)
-
--- after the last record's slot
-pub getD-written-past : (w : ℕ) (o : List ℕ) (from n : ℕ) (es : List (List ℕ)) (i d : ℕ) → Records w es → (n + length es - from) * w ≤ i
-    → getD (written w o from n es) i d ≡ getD o i d
-unfolding written
-getD-written-past w o from n [] i d r h = refl
-getD-written-past w o from n (e ∷ es) i d r h =
-    let q : suc n + length es ≡ n + suc (length es) = omega arith in
-    getD-written-past w (store w o from n e) from (suc n) es i d (r .1) (rw q h)
-    ∙ getD-store w o from n e i d (λ a b.
-    let m : suc (n - from) * w ≤ (n + suc (length es) - from) * w = mul-le-mul-right w (omega arith) in
-    getD-sets-past o ((n - from) * w) e i d (omega (arith, suc-mul (n - from) w, r .0)))
-
--- after the last whole slot
-pub getD-written-rest : (w : ℕ) (o : List ℕ) (from n : ℕ) (es : List (List ℕ)) (i d : ℕ) → Records w es → length o / w * w ≤ i
-    → getD (written w o from n es) i d ≡ getD o i d
-unfolding written
-getD-written-rest w o from n [] i d r h = refl
-getD-written-rest w o from n (e ∷ es) i d r h =
-    getD-written-rest w (store w o from n e) from (suc n) es i d (r .1) (rw (length-store w o from n e) h)
-    ∙ getD-store w o from n e i d (λ a b.
-    let m : suc (n - from) * w ≤ length o / w * w = mul-le-mul-right w b in
-    getD-sets-past o ((n - from) * w) e i d (omega (arith, suc-mul (n - from) w, r .0)))
 
 -- ---- the whole list
 
@@ -270,6 +194,3 @@ window-record w o k es p h r l =
     let s = written-slot w o k 0 es k r (omega arith) (omega arith) (omega arith) (omega arith) in
     let t : take w (written w o k 0 es) ≡ written w o k 0 es = take-all w (written w o k 0 es) (omega (arith, length-written w o k 0 es)) in
     sym t ∙ (rw (z, y) at s)
-
-pub window-none : (w : ℕ) (o : List ℕ) (k : ℕ) (es : List (List ℕ)) → length es ≤ k → written w o k 0 es ≡ o
-window-none w o k es h = written-before w o k 0 es (omega arith)

@@ -4,7 +4,7 @@ use mathlib.Core.Bool.{Bool, true, false, not, _&&_, and-true, and-false}
 use mathlib.Core.List.{List, [], _∷_, _++_, reverse, reverse-append}
 use mathlib.Core.Logic.{_⊎_, inl, inr}
 use Prim.Native.Nat.{ℕ, zero, suc, _+_, _-_, _*_, _/_, _%_, _^_, _<_, _≤_}
-use native.Mathlib.Nat.{eq-or-lt-of-le, mod-lt, pow-suc}
+use native.Mathlib.Nat.{eq-or-lt-of-le, pow-suc}
 use native.Mathlib.Omega.{arith}
 use borrow.Author.Tests.{eq-eqb, ne-eqb}
 use lib.Count.{trailingZeros, under, leadingZeros, leading-top, ones, ones-cat}
@@ -15,7 +15,7 @@ use Rattle.ints.specs.Sums.{all}
 use Rattle.ints.specs.Bits.{bit}
 use Rattle.ints.specs.Masks.{IsMask, keep, those, thoseDown}
 use Rattle.ints.proofs.Tests.{lt-or-le}
-use Rattle.ints.proofs.Digits.{bit-zero, bit-suc, bit-shr, bit-ext, bit-lt, bit-none, bit-top, bit-below, bit-le, bit-mod-lt, bit-mod-ge, bit-clear, shl-one}
+use Rattle.ints.proofs.Digits.{bit-zero, bit-suc, bit-shr, bit-ext, bit-lt, bit-none, bit-top, bit-below, bit-le, bit-clear, shl-one}
 
 -- ---- lists of points
 
@@ -96,27 +96,10 @@ length-those-le (suc n) k f = go (length-those-le n (suc k) f) (f k)
     go h true = omega arith
     go h false = omega arith
 
-pub length-down-le : (n : ℕ) (f : ℕ → Bool) → length (thoseDown n f) ≤ n
-length-down-le n f = rw (length-down n f) (length-those-le n 0 f)
-
 -- ---- what a mask is
 
 pub mask-unique : (f : ℕ → Bool) (a b : ℕ) → IsMask f a → IsMask f b → a ≡ b
 mask-unique f a b g h = bit-ext a b (λ i. g i ∙ sym (h i))
-
--- a mask whose points are below n
-pub mask-lt : (n : ℕ) (f : ℕ → Bool) (m : ℕ) → IsMask f m → ((i : ℕ) → n ≤ i → f i ≡ false) → m < 2 ^ n
-mask-lt n f m g h =
-    let e : m % 2 ^ n ≡ m = bit-ext (m % 2 ^ n) m (λ i. go i (lt-or-le i n)) in
-    rw e at (mod-lt m (pow-pos n))
-  where
-    go : (i : ℕ) → (i < n) ⊎ (n ≤ i) → bit (m % 2 ^ n) i ≡ bit m i
-    go i (inl l) = bit-mod-lt m n i l
-    go i (inr l) = bit-mod-ge m n i l ∙ sym (g i ∙ h i l)
-
--- no points are 0
-pub mask-none : (f : ℕ → Bool) → ((i : ℕ) → f i ≡ false) → IsMask f 0
-mask-none f h i = bit-none i ∙ sym (h i)
 
 -- ---- the number of points
 

@@ -1,7 +1,7 @@
 -- Signed numbers for `omega`: z is `posPart z` less `negPart z`, two whole numbers of which one is 0.
 -- Each law turns a fact of signed numbers, as a test, a sum or a range gives it, into one on those parts.
 --     apart              one of the two is 0, as an equation with a difference, which `omega` reads
---     lt-yes .. le-no    a test that held, or failed
+--     lt-yes, lt-no      a test that held, or failed
 --     plus, less         a sum, a difference
 --     same-parts         two numbers with equal parts are equal
 --     held               a number as the machine's local of that width has it, and what it stores and tests
@@ -15,7 +15,7 @@ use lib.IntN.{ℤ, pos, negsuc, negℤ, sucℤ, predℤ, natAbs, subℕ, _+ℤ_,
 use lib.ListN.{set}
 use lib.Signed.{mag, ltZ, leZ, nonNeg}
 use lib.Dec.{T, ltb, leb, leb·suc-suc}
-use borrow.Author.Tests.{ltb-true, ltb-false, leb-true, leb-false}
+use borrow.Author.Tests.{ltb-true, ltb-false}
 use mir.Syntax.{Width}
 use mir.Val.{SFits, toZ, ofZ, hbits}
 use mir.ValLaws.{toZ-ofZ}
@@ -42,18 +42,6 @@ lt-no (pos a) (pos b) e = omega (arith, ltb-false a b e)
 lt-no (pos a) (negsuc b) e = omega arith
 lt-no (negsuc a) (pos b) e = never e
 lt-no (negsuc a) (negsuc b) e = omega (arith, ltb-false b a e)
-
-pub le-yes : (a b : ℤ) → leZ a b ≡ true → posPart a + negPart b ≤ posPart b + negPart a
-le-yes (pos a) (pos b) e = omega (arith, leb-true a b e)
-le-yes (pos a) (negsuc b) e = never (sym e)
-le-yes (negsuc a) (pos b) e = omega arith
-le-yes (negsuc a) (negsuc b) e = omega (arith, leb-true b a e)
-
-pub le-no : (a b : ℤ) → leZ a b ≡ false → posPart b + negPart a < posPart a + negPart b
-le-no (pos a) (pos b) e = omega (arith, leb-false a b e)
-le-no (pos a) (negsuc b) e = omega arith
-le-no (negsuc a) (pos b) e = never e
-le-no (negsuc a) (negsuc b) e = omega (arith, leb-false b a e)
 
 -- ---- sums, differences, negation, one more and one less
 

@@ -32,16 +32,6 @@ unfolding sumTo
 sum-same f g zero h = refl
 sum-same f g (suc n) h = omega (arith, sum-same f g n (λ k l. h k (omega arith)), h n (omega arith))
 
--- a change at one place changes the sum by as much
-pub sum-change : (f g : ℕ → ℕ) (p n : ℕ) → p < n → ((k : ℕ) → k < n → (k ≡ p → ⊥) → f k ≡ g k) → sumTo f n + g p ≡ sumTo g n + f p
-unfolding sumTo
-sum-change f g p zero l h = absurd (omega arith)
-sum-change f g p (suc n) l h =
-    ⊎-elim
-    (λ (e : p ≡ n). omega (arith, ap f e, ap g e, sum-same f g n (λ k m. h k (omega arith) (λ q. omega arith))))
-    (λ (m : p < n). omega (arith, sum-change f g p n m (λ k m' q. h k (omega arith) q), h n (omega arith) (λ q. omega arith)))
-    (last l)
-
 -- a list of values: its length and what stands where
 pub length-values : {A : Type 0} (f : ℕ → A) (i n : ℕ) → length (values f i n) ≡ n
 unfolding values

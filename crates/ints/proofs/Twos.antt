@@ -3,7 +3,7 @@ use mathlib.Core.Path.{_≡_, refl, sym, ap, subst, _∙_}
 use mathlib.Core.Bool.{Bool, true, false, cond}
 use Prim.Native.Nat.{ℕ, zero, suc, _+_, _-_, _<_, _≤_}
 use native.Mathlib.Omega.{arith}
-use borrow.Author.Tests.{ltb-true, ltb-false, lt-ltb, le-ltb}
+use borrow.Author.Tests.{ltb-true, lt-ltb, le-ltb}
 use lib.Dec.{ltb}
 use lib.IntN.{ℤ, pos, negsuc, _-ℤ_, +ℤ-comm, -ℤ-one}
 use lib.Signed.{mag, ltZ}
@@ -11,11 +11,6 @@ use mir.Syntax.{w8}
 use mir.Val.{SFits, toZ, ofZ}
 use mir.Facts.{toZ-ofZ, toZ-pos}
 use Rattle.ints.specs.Twos.{twos, fromTwos}
-
-pub twos-lt : (z : ℤ) → mag z < 128 → twos z < 256
-unfolding twos
-twos-lt (pos n) h = omega arith
-twos-lt (negsuc n) h = omega arith
 
 -- ---- there and back
 
@@ -32,24 +27,10 @@ twos-from n h = go (ltb n 128) refl
     go true e = refl
     go false e = omega arith
 
--- a byte's entry fits
-pub mag-from : (n : ℕ) → n < 256 → mag (fromTwos n) < 128
-unfolding fromTwos
-mag-from n h = go (ltb n 128) refl
-  where
-    go : (t : Bool) → ltb n 128 ≡ t → mag (cond t (pos n) (negsuc (255 - n))) < 128
-    go true e = ltb-true n 128 e
-    go false e = omega (arith, ltb-false n 128 e)
-
 pub twos-injective : (y z : ℤ) → mag y < 128 → mag z < 128 → twos y ≡ twos z → y ≡ z
 twos-injective y z f g e = sym (from-twos y f) ∙ ap fromTwos e ∙ from-twos z g
 
 -- ---- the machine's bits
-
-pub ofZ-twos : (z : ℤ) → ofZ w8 z ≡ twos z
-unfolding twos
-ofZ-twos (pos n) = refl
-ofZ-twos (negsuc n) = omega arith
 
 -- an entry as the machine has it, below 0, with -1 - z
 pub record Mirror (z : ℤ) : Type 0 where

@@ -2,24 +2,16 @@
 use mathlib.Core.Path.{_≡_, refl}
 use mathlib.Core.List.{List, [], _∷_}
 use Prim.Native.Nat.{ℕ}
-use lib.IntN.{ℤ, pos, negsuc}
-use lib.ListN.{replicate, set}
+use lib.IntN.{ℤ}
+use lib.ListN.{replicate}
 use Rattle.ints.specs.Bits.{digits, number, bitsOf, bytesOf, some}
 use Rattle.ints.specs.Sums.{sumTo, values, total}
-use Rattle.position.specs.Board.{checkers, refusalOf, switched}
+use Rattle.position.specs.Board.{checkers, start, refusalOf, switched}
 use Rattle.position.specs.Step.{lifted, landed, stepped}
 use Rattle.position.specs.Phase.{phaseOf}
 use Rattle.position.specs.Answers.{boardAnswer}
+use Rattle.position.specs.Words.{blank, x, o}
 use Rattle.key.specs.Key.{counts, runs, keyBits, keyOf, keyAnswer, lead, rest, countsOf, restOf, oSide, xSide, bitsRefusal, keyRefusal, boardFrom, boardOf, boardOfKeyAnswer}
-
-abbrev empty : List ℤ
-empty = replicate 26 (pos 0)
-
--- the start board: x 24:2, 13:5, 8:3, 6:5 and o 1:2, 12:5, 17:3, 19:5
-abbrev start : List ℤ
-start =
-    set (set (set (set (set (set (set (set empty 24 (pos 2)) 13 (pos 5)) 8 (pos 3)) 6 (pos 5)) 1 (negsuc 1)) 12 (negsuc 4)) 17 (negsuc 2)) 19
-    (negsuc 4)
 
 abbrev start-key : List ℕ
 start-key = 0xE0 ∷ 0x73 ∷ 0xF0 ∷ 0x01 ∷ 0x30 ∷ 0xE0 ∷ 0x73 ∷ 0xF0 ∷ 0x01 ∷ 0x30 ∷ []
@@ -33,7 +25,7 @@ unfolding boardOfKeyAnswer boardAnswer keyRefusal bitsRefusal boardOf boardFrom 
 start-read = refl
 
 -- a refused board has no key
-sixteen-refused : keyAnswer checkers (set empty 6 (pos 16)) ≡ record { refused = 1; key = replicate 10 0 }
+sixteen-refused : keyAnswer checkers (x 6 16 blank) ≡ record { refused = 1; key = replicate 10 0 }
 unfolding keyAnswer refusalOf sumTo
 sixteen-refused = refl
 
@@ -56,14 +48,14 @@ unfolding keyRefusal bitsRefusal values total some oSide xSide countsOf restOf l
 last-bit = refl
 
 -- the manual's three checkers a side: x 24:1, 17:1, 15:1 and o 12:2, 2:1
-hypergammon : keyOf (set (set (set (set (set empty 24 (pos 1)) 17 (pos 1)) 15 (pos 1)) 12 (negsuc 1)) 2 (negsuc 0))
+hypergammon : keyOf (o 2 1 (o 12 2 (x 15 1 (x 17 1 (x 24 1 blank)))))
     ≡ 0x00 ∷ 0x30 ∷ 0x00 ∷ 0x01 ∷ 0x00 ∷ 0x24 ∷ 0x20 ∷ 0x00 ∷ 0x00 ∷ 0x00 ∷ []
 unfolding keyOf keyBits counts values runs bytesOf number
 hypergammon = refl
 
 -- the card of the game that one turn ends: x alone on 5, o on 20
 abbrev lone : List ℤ
-lone = set (set empty 5 (pos 1)) 20 (negsuc 0)
+lone = o 20 1 (x 5 1 blank)
 
 card-start : boardOf (0x10 ∷ 0x00 ∷ 0x00 ∷ 0x40 ∷ 0x00 ∷ 0x00 ∷ 0x00 ∷ 0x00 ∷ 0x00 ∷ 0x00 ∷ []) ≡ lone
 unfolding boardOf boardFrom values oSide xSide countsOf restOf lead rest bitsOf digits

@@ -1,24 +1,23 @@
 -- What the entries answer, as the code's tests go, and what a window of the generator holds.
 -- Assumes nothing.
 use mathlib.Core.Path.{_≡_, refl, sym, ap, ap₂, _∙_}
-use mathlib.Core.Bool.{Bool, true, false, cond, _&&_, and-false}
+use mathlib.Core.Bool.{Bool, false, cond, and-false}
 use mathlib.Core.List.{List, [], _∷_, _++_, map, flatten, map-map}
 use mathlib.Core.Logic.{inl, inr}
-use Prim.Native.Nat.{ℕ, zero, suc, _+_, _*_, _≤_, _<_, min, max}
+use Prim.Native.Nat.{ℕ, zero, suc, _+_, _*_, _≤_, _<_}
 use native.Mathlib.Omega.{arith}
 use borrow.Author.Tests.{lt-ltb, le-ltb}
 use lib.Dec.{ltb}
 use lib.IntN.{ℤ, pos}
-use lib.ListN.{length, getD, drop, replicate, length-map, length-replicate}
-use lib.Signed.{mag}
+use lib.ListN.{length, getD, drop, length-map}
 use Rattle.ints.specs.Answer.{Answer, value, refused, carried}
 use Rattle.ints.specs.Signed.{Small}
 use Rattle.ints.specs.Twos.{twos, fromTwos}
 use Rattle.ints.specs.Lent.{Records, written}
-use Rattle.ints.proofs.Lent.{records-map, written-list, window-record, window-none}
+use Rattle.ints.proofs.Lent.{records-map, written-list, window-record}
 use Rattle.ints.proofs.Tests.{by-cond}
 use Rattle.ints.proofs.Twos.{from-twos}
-use Rattle.dice.specs.Dice.{isDie, Die}
+use Rattle.dice.specs.Dice.{isDie}
 use Rattle.dice.proofs.TwoDice.{test-die}
 use Rattle.position.specs.Board.{Accepted, startRefusal, switched}
 use Rattle.position.specs.Answers.{Started}

@@ -22,7 +22,7 @@ unfoldable pub enterBut : List ℤ → ℕ → ℕ → ℕ → List (List ℤ)
 unfolding upBut
 enterBut b d e w = after b d (λ c. upBut c e w 25) 25
 
--- demand 3, where both dice give no end: the larger die l alone, else the smaller die s alone, else the unchanged board
+-- where both dice give no end (document 01, "Steps and ends"): the larger die l alone, else the smaller die s alone, else the unchanged board
 abbrev pub oneDie : List ℤ → ℕ → ℕ → List (List ℤ)
 oneDie b s l = orElse (single b l) (orElse (single b s) (only b))
 

@@ -6,7 +6,7 @@ ghost use mathlib.Core.Path.{_≡_};
 ghost use Prim.Native.Nat.{_≤_};
 ghost use Rattle.ints.specs.Signed.{Small};
 ghost use Rattle.ints.specs.Sums.{sumTo};
-ghost use Rattle.position.specs.Board.{checkers, Accepted, xs, os, switched};
+ghost use Rattle.position.specs.Board.{checkers, xs, os, switched};
 ghost use Rattle.position.specs.Step.{clearFrom, canStep, stepped};
 ghost use Rattle.position.specs.Answers.{Judged, Started, Counted, switchAnswer, stepAnswer, noBoard};
 

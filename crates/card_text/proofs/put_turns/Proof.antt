@@ -16,11 +16,6 @@ use Rattle.card_text.proofs.CardLines.{lines-start, lines-next, key-ans
 use Rattle.card_text.proofs.Writing.{wrote-length}
 use Rattle.card_text.proofs.put_turns.Statement.{statement}
 use Rattle.card_text.proofs.put_turns.Tie as tie
-use Rattle.card_text.proofs.put_turns.Reads as reads
-use Rattle.card_text.proofs.put_turns.Lts as lts
-use Rattle.card_text.proofs.lines.put_turn.Reads as put-turn-reads
-use Rattle.card_text.proofs.told.Reads as told-reads
-use Rattle.key.proofs.encode.Reads as encode-reads
 
 abbrev Inv-loop : tie.InvT-loop
 Inv-loop card turns out₀ at b₀ to₀ k₀ out b to k =

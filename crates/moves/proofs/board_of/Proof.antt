@@ -1,12 +1,12 @@
 -- `moves::board_of` meets its contract. The loop's invariant: the entries passed are those that the bytes hold.
-use mathlib.Core.Path.{_≡_, refl, sym, ap, _∙_}
+use mathlib.Core.Path.{_≡_, refl, sym, _∙_}
 use mathlib.Core.List.{map}
 use Prim.Native.Nat.{ℕ, _-_, _≤_, _<_}
 use native.Mathlib.Decide.{ℕ-discrete}
 use native.Mathlib.Omega.{arith}
 use borrow.Author.Needs.{needs}
-use lib.IntN.{ℤ, pos}
-use lib.ListN.{length, getD, set, length-set, length-map}
+use lib.IntN.{pos}
+use lib.ListN.{length, getD, length-set, length-map}
 use lib.Seq.{getD-set-same, getD-set-other, ext-getD}
 use mir.Syntax.{w8}
 use Rattle.ints.specs.Twos.{fromTwos}

@@ -1,14 +1,14 @@
 -- `moves::fill` meets its contract: a double's ends, or those of the smaller and the larger die.
-use mathlib.Core.Path.{_≡_, sym, ap, _∙_}
+use mathlib.Core.Path.{_≡_, sym, _∙_}
 use mathlib.Core.List.{List}
-use Prim.Native.Nat.{ℕ, _≤_, _<_, min, max}
+use Prim.Native.Nat.{ℕ, min, max}
 use native.Mathlib.Omega.{arith}
 use borrow.Author.Needs.{needs}
 use lib.IntN.{ℤ}
 use Rattle.dice.proofs.TwoDice.{die-range}
 use Rattle.position.proofs.Boards.{accepted-small}
 use Rattle.position.proofs.Steps.{accepted-good}
-use Rattle.rules.specs.Ends.{mixed, endsOf}
+use Rattle.rules.specs.Ends.{mixed}
 use Rattle.rules.proofs.Dice.{double-list, mixed-list}
 use Rattle.moves.proofs.Entries.{passed-same}
 use Rattle.moves.proofs.fill.Statement.{statement}

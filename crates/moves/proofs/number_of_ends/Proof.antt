@@ -1,5 +1,4 @@
 -- `moves::number_of_ends` meets its contract: the generator passes every end, whatever room it has.
-use mathlib.Core.Path.{_≡_, _∙_}
 use native.Mathlib.Omega.{arith}
 use borrow.Author.Needs.{needs}
 use Rattle.moves.proofs.Entries.{count-is}

@@ -1,9 +1,6 @@
 -- `munchalep::counted_number` meets its contract: each case has its number, and few ends fit beside it.
-use Prim.Native.Nat.{_≤_}
 use native.Mathlib.Omega.{arith}
 use borrow.Author.Needs.{needs}
-use Rattle.ints.specs.Answer.{carried}
-use Rattle.moves.specs.Answers.{countTold}
 use Rattle.munchalep.proofs.counted_number.Statement.{statement}
 use Rattle.munchalep.proofs.counted_number.Tie as tie
 

@@ -12,7 +12,9 @@ contact-input-requires : tie.Need-contact-input-requires
 contact-input-requires c κs = search needs
 
 put-input-requires : tie.Need-put-input-requires
-put-input-requires c κs = subst (λ (a : InputAnswer). T (isNumber a)) (sym (c .before .contact-input .ensures)) ?
+put-input-requires c κs =
+    let a = c .before .before .before .args in
+    subst (λ (i : InputAnswer). T (isNumber i)) (sym (c .before .contact-input .ensures)) (contact-input-number (a .board .now) (a .place))
 
 returns : tie.Need-returns
 returns c = handed-input (c .put-input .ensures) (c .before .before .contact-input .ensures)

@@ -1,8 +1,7 @@
 -- `munchalep::munchalep_count` meets its contract: the number of what the crate `moves` answers.
-use mathlib.Core.Path.{_≡_, ap, _∙_}
-use Prim.Native.Nat.{_≤_}
+use mathlib.Core.Path.{ap, _∙_}
 use borrow.Author.Needs.{needs}
-use Rattle.ints.specs.Answer.{packed, carried}
+use Rattle.ints.specs.Answer.{packed}
 use Rattle.position.specs.Board.{checkers}
 use Rattle.moves.proofs.Entries.{count-carries}
 use Rattle.munchalep.proofs.munchalep_count.Statement.{statement}

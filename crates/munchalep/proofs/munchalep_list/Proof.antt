@@ -1,9 +1,8 @@
 -- `munchalep::munchalep_list` meets its contract: the number of what the crate `moves` answers, and its list.
-use mathlib.Core.Path.{_≡_, ap, _∙_}
-use Prim.Native.Nat.{_≤_}
+use mathlib.Core.Path.{ap, _∙_}
 use borrow.Author.Needs.{needs}
 use lib.ListN.{length}
-use Rattle.ints.specs.Answer.{packed, carried}
+use Rattle.ints.specs.Answer.{packed}
 use Rattle.position.specs.Board.{checkers}
 use Rattle.moves.proofs.Entries.{list-carries}
 use Rattle.munchalep.proofs.munchalep_list.Statement.{statement}

@@ -1,7 +1,7 @@
 -- `put::put_digits` meets its contract: the digits before the last are those of a tenth, in one place fewer.
 use Prim.Native.Nat.{ℕ, _-_, _/_, _<_}
 use native.Mathlib.Omega.{arith}
-use lib.ListN.{length, length-set}
+use lib.ListN.{length}
 use borrow.Author.Needs.{needs}
 use Rattle.card_text.proofs.Writing.{wrote-length, digits-none, digits-one, digits-more, few-digits}
 use borrow.Fn.Kinds.{In}

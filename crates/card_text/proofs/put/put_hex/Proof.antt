@@ -3,15 +3,12 @@ use mathlib.Core.Path.{_≡_}
 use Prim.Native.Nat.{_+_, _-_, _*_, _≤_}
 use native.Mathlib.Omega.{arith}
 use borrow.Author.Needs.{needs}
-use lib.ListN.{length, take}
+use lib.ListN.{take}
 use Rattle.card_text.specs.Text.{hex}
 use Rattle.card_text.specs.Wrote.{Wrote}
 use Rattle.card_text.proofs.Writing.{wrote-length, hex-start, hex-next, hex-end}
 use Rattle.card_text.proofs.put.put_hex.Statement.{statement}
 use Rattle.card_text.proofs.put.put_hex.Tie as tie
-use Rattle.card_text.proofs.put.put_hex.Reads as reads
-use Rattle.card_text.proofs.put.put_hex.Lts as lts
-use Rattle.card_text.proofs.put.put_hex_byte.Reads as put-hex-byte-reads
 
 abbrev Inv-loop : tie.InvT-loop
 Inv-loop out₀ at key i₀ to₀ out i to =

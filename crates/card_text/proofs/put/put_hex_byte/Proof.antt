@@ -5,9 +5,6 @@ use borrow.Author.Needs.{needs}
 use Rattle.card_text.proofs.Writing.{two-digits}
 use Rattle.card_text.proofs.put.put_hex_byte.Statement.{statement}
 use Rattle.card_text.proofs.put.put_hex_byte.Tie as tie
-use Rattle.card_text.proofs.put.put_hex_byte.Reads as reads
-use Rattle.card_text.proofs.put.put_hex_byte.Lts as lts
-use Rattle.card_text.proofs.put.hex_digit.Reads as hex-digit-reads
 
 hex-digit-requires : tie.Need-hex-digit-requires
 hex-digit-requires c κs = search needs
