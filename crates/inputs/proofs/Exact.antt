@@ -44,7 +44,7 @@ inputs-few b counts m (suc (suc p)) h =
     omega (arith, input-four checkers b counts (suc (suc p)) (omega arith) h)
 
 -- an input is at most fifteen where each entry holds at most as many
-module _ {b : List ℤ} (few : (p : ℕ) → p < 26 → (xs b p ≤ checkers) × (os b p ≤ checkers)) where
+module _ (b : List ℤ) (few : (p : ℕ) → p < 26 → (xs b p ≤ checkers) × (os b p ≤ checkers)) where
   contact-few : (k : ℕ) → k < 50 → getD (contactCounts b) k 0 ≤ checkers
   contact-few zero h = omega (arith, contact-bar b zero refl, few 25 (omega arith) .0)
   contact-few (suc k) h = go (lt-or-le (suc k) 25)
@@ -71,10 +71,10 @@ module _ {b : List ℤ} (few : (p : ℕ) → p < 26 → (xs b p ≤ checkers) ×
 -- "exactly": the f32 of an input, read back, is the input
 module _ {b : List ℤ} (a : Accepted checkers b) where
   pub contact-exact : (p : ℕ) → p < contactSize → toUnsigned 8 (whole (getD (contactInputs checkers b) p 0)) ≡ getD (contactInputs checkers b) p 0
-  contact-exact p h = whole-exact (getD (contactInputs checkers b) p 0) (omega (arith, contact-most (few a) p h))
+  contact-exact p h = whole-exact (getD (contactInputs checkers b) p 0) (omega (arith, contact-most b (few a) p h))
 
   pub race-exact : (p : ℕ) → p < raceSize → toUnsigned 8 (whole (getD (raceInputs checkers b) p 0)) ≡ getD (raceInputs checkers b) p 0
-  race-exact p h = whole-exact (getD (raceInputs checkers b) p 0) (omega (arith, race-most (few a) p h))
+  race-exact p h = whole-exact (getD (raceInputs checkers b) p 0) (omega (arith, race-most b (few a) p h))
 
 -- one input that is answered is a number
 place-number : (k size : ℕ) (inputs : List ℕ) (p : ℕ) → (k ≡ 0 → p < size → T (truth.not (isNan (whole (getD inputs p 0)))))
@@ -97,10 +97,10 @@ module _ (b : List ℤ) (place : ℕ) where
   unfolding contactInput
   contact-input-number =
       place-number (refusalOf checkers b) contactSize (contactInputs checkers b) place
-      (λ e h. whole-number (getD (contactInputs checkers b) place 0) (omega (arith, contact-most (unrefused-few e) place h)))
+      (λ e h. whole-number (getD (contactInputs checkers b) place 0) (omega (arith, contact-most b (unrefused-few e) place h)))
 
   pub race-input-number : T (isNumber (raceInput checkers b place))
   unfolding raceInput
   race-input-number =
       place-number (refusalOf checkers b) raceSize (raceInputs checkers b) place
-      (λ e h. whole-number (getD (raceInputs checkers b) place 0) (omega (arith, race-most (unrefused-few e) place h)))
+      (λ e h. whole-number (getD (raceInputs checkers b) place 0) (omega (arith, race-most b (unrefused-few e) place h)))

@@ -270,7 +270,12 @@ fn td_bits(table: &[[f32; 4]; 31], own: i8) -> [u32; 4]
     ensures { λ r. ⌜ r ≡ map bits (four (posPart own)) ⌝ }
 {
     let row = td_inputs(table, own);
-    [bits_of(row[0]), bits_of(row[1]), bits_of(row[2]), bits_of(row[3])]
+    [
+        bits_of(row[0]),
+        bits_of(row[1]),
+        bits_of(row[2]),
+        bits_of(row[3]),
+    ]
 }
 
 // The bits of a value that is a number, as lent memory holds them.

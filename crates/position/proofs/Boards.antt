@@ -76,15 +76,11 @@ unrefused-accepted n b l e = judged n b l .ok e
 
 -- no side has more than its checkers, however many entries there are
 pub unrefused-most : (n : ℕ) (b : List ℤ) → refusalOf n b ≡ 0 → (xAll b ≤ n) × (oAll b ≤ n)
-unrefused-most n b e = x (lt-or-le n (xAll b))
-  where
-    x : (n < xAll b) ⊎ (xAll b ≤ n) → (xAll b ≤ n) × (oAll b ≤ n)
-    x (inl h) = let z = judged-1 n b h .is in absurd (omega arith)
-    x (inr hx) = o (lt-or-le n (oAll b))
-      where
-        o : (n < oAll b) ⊎ (oAll b ≤ n) → (xAll b ≤ n) × (oAll b ≤ n)
-        o (inl h) = let z = judged-2 n b hx h .is in absurd (omega arith)
-        o (inr ho) = (hx, ho)
+unrefused-most n b e =
+    ⊎-elim (λ h. let z = judged-1 n b h .is in absurd (omega arith)) (λ hx.
+    ⊎-elim (λ h. let z = judged-2 n b hx h .is in absurd (omega arith)) (λ ho. (hx, ho))
+    (lt-or-le n (oAll b)))
+    (lt-or-le n (xAll b))
 
 -- ---- a board from which a play is asked or a card starts
 

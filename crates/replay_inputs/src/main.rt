@@ -2,7 +2,8 @@
 //
 // The file inputs.bin has one record of 232 bytes an answer: the net (0 contact, 1 race), how many floats are lent, 26 of the board,
 // the refusal's number, and 203 of the lent floats afterwards, each as the whole number that it equals: 85 where it stays as it was,
-// and after the last. Each input is then asked by its place, and has to be the float that stands there.
+// and after the last. Each input is then asked by its place, and has to be the float that stands there. Floats are compared by their
+// bits.
 ghost use Prim.Native.Nat.{_≤_, _<_};
 use libc::STDERR_FILENO;
 use libc::STDOUT_FILENO;
@@ -14,6 +15,9 @@ const FLOATS: usize = 203;
 
 // Where they begin in a record.
 const FIRST: usize = 29;
+
+// What a float that stays holds: the bits of a NaN, which no input has.
+const STAYS: u32 = 0x7FA5_5A55;
 
 // More records than a file of this kind has: the program ends whatever it reads.
 const MOST: u64 = 1000000;
@@ -79,7 +83,7 @@ fn differs(record: &[u8; RECORD]) -> u64
         return 1;
     }
     let board = board(record);
-    let mut floats = [85.0f32; FLOATS];
+    let mut floats = [STAYS; FLOATS];
     if fill(record[0], &board, &mut floats[..length]) != refusal(record) {
         return 1;
     }
@@ -97,7 +101,7 @@ fn differs(record: &[u8; RECORD]) -> u64
 }
 
 // Lends the floats to the net's entry.
-fn fill(net: u8, board: &[i8; 26], floats: &mut [f32]) -> u64 {
+fn fill(net: u8, board: &[i8; 26], floats: &mut [u32]) -> u64 {
     if net == 0 {
         return munchalep::munchalep_contact_inputs(board, floats);
     }
@@ -105,18 +109,17 @@ fn fill(net: u8, board: &[i8; 26], floats: &mut [f32]) -> u64 {
 }
 
 // Asks the net's entry for the input that has a place.
-fn ask(net: u8, board: &[i8; 26], place: usize, out: &mut f32) -> u64 {
+fn ask(net: u8, board: &[i8; 26], place: usize, out: &mut u32) -> u64 {
     if net == 0 {
         return munchalep::munchalep_contact_input(board, place, out);
     }
     munchalep::munchalep_race_input(board, place, out)
 }
 
-// Whether the floats are the stored ones. They are compared as numbers, which takes 0 and minus 0 for the same: a float's bits can
-// be read only where it is proved to be no NaN.
-fn holds(floats: &[f32; FLOATS], record: &[u8; RECORD]) -> bool {
+// Whether the floats are the stored ones.
+fn holds(floats: &[u32; FLOATS], record: &[u8; RECORD]) -> bool {
     for i in 0..FLOATS {
-        if floats[i] != number(record[FIRST + i]) {
+        if floats[i] != bits(record[FIRST + i]) {
             return false;
         }
     }
@@ -126,11 +129,11 @@ fn holds(floats: &[f32; FLOATS], record: &[u8; RECORD]) -> bool {
 // Whether each input by its place is the stored one, and none is given after the last.
 fn places_hold(board: &[i8; 26], record: &[u8; RECORD]) -> bool {
     for place in 0..FLOATS {
-        let mut out = 85.0f32;
+        let mut out = STAYS;
         if ask(record[0], board, place, &mut out) != refusal_at(record, place) {
             return false;
         }
-        if out != number(record[FIRST + place]) {
+        if out != bits(record[FIRST + place]) {
             return false;
         }
     }
@@ -175,7 +178,10 @@ fn wide(byte: u8) -> usize
     byte as usize
 }
 
-// A byte as a float.
-fn number(byte: u8) -> f32 {
-    byte as f32
+// The bits of a stored float.
+fn bits(byte: u8) -> u32 {
+    if byte == 85 {
+        return STAYS;
+    }
+    f32::to_bits(byte as f32)
 }
