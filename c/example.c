@@ -134,7 +134,7 @@ static void read_card(const uint8_t *card, size_t length)
     print_answer("card, position 1", munchalep_card_position(card, length, 1, out), out);
     answer = munchalep_card_read(card, length - 1);
     print_refusal("card without its last byte, read", answer);
-    /* A refusal of reading has the first byte of the refused record above its number. */
+    /* A refusal of reading has the byte offset of the refused record above its number. */
     printf("    at byte: %u\n", (unsigned)munchalep_value_of(answer));
 }
 

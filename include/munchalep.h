@@ -15,9 +15,11 @@
  * where nothing is refused; the 56 bits above it are a value, which each
  * function below describes. munchalep_refusal_of() and munchalep_value_of()
  * take the two apart. A board that is answered goes to `out`, a key to `key`,
- * the ends of a roll go to `list`, steps to `row`, records of a card to `buffer`;
- * a refusal leaves them as they were. Where several refusals apply, the one named
- * first is given.
+ * the ends of a roll go to `list`, steps to `row`, the inputs of a net to
+ * `inputs` and one of them to `out`, records of a card to `buffer`; a refusal
+ * leaves every byte of them as it was. The value of a refusal is 0, but for 10
+ * and for a card that is refused in reading, as told below. Where several
+ * refusals apply, the one named first is given.
  *
  * No function keeps anything between calls, so threads may call them at once.
  */
@@ -240,7 +242,7 @@ uint64_t munchalep_card_begin(const int8_t board[26], uint8_t *buffer, size_t ro
  * it leaves, as the other side sees it (sides switched). The value is the card's
  * new length. Refuses 19 where `length` is above `room`, what
  * munchalep_card_read() refuses of the card, with its value, then 22, 25, 7, 12,
- * 19.
+ * 19 with the value 0.
  */
 uint64_t munchalep_card_add(uint8_t *buffer, size_t room, size_t length, size_t die1, size_t die2,
                             const int8_t end[26]);
@@ -248,8 +250,8 @@ uint64_t munchalep_card_add(uint8_t *buffer, size_t room, size_t length, size_t 
 /*
  * Reads the whole card in `length` bytes. The value is the number of its turns.
  * Refuses 20, 21, 15, 16, 17, 18, 6, 5; then for each turn 22, 23, 24, 25, 26,
- * 11, and then the value is the first byte of the refused record, 0 for the
- * start record.
+ * 11. The value of these is where the refused record begins, its byte offset in
+ * the card: 0 for the start record.
  */
 uint64_t munchalep_card_read(const uint8_t *card, size_t length);
 

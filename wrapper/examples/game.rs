@@ -49,7 +49,7 @@ fn main() -> Result<(), Refusal> {
     assert_eq!(card_position(card, 1)?, first);
     assert_eq!(card_position(card, 2)?, second);
 
-    // A card cut short is refused, and the refusal carries the first byte of the refused record.
+    // A card cut short is refused, and the refusal carries the byte offset of the refused record.
     let refusal = card_read(&card[..length - 1]).unwrap_err();
     let Refusal { number, carried } = refusal;
     println!("without its last byte: refused, {number} at byte {carried}: {refusal}");

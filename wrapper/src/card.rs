@@ -53,7 +53,7 @@ pub fn card_add(
 }
 
 /// Reads a whole card: the number of its turns. Refuses 20, 21, 15, 16, 17, 18, 6, 5, then for each
-/// turn 22, 23, 24, 25, 26, 11; the refusal carries the first byte of the refused record.
+/// turn 22, 23, 24, 25, 26, 11; the refusal carries its byte offset in the card.
 pub fn card_read(card: &[u8]) -> Result<usize, Refusal> {
     value_of(raw::munchalep_card_read(card)).map(|turns| turns as usize)
 }

@@ -13,7 +13,7 @@ ghost use Rattle.card.specs.Answers.{cardTold, noPosition, positionAnswe
 // A game has at most a thousand turns.
 pub const MAX_TURNS: usize = 1000;
 
-// Why a card is refused: the refusal's number, and the first byte of the refused record.
+// Why a card is refused: the refusal's number, and the byte where the refused record begins.
 pub struct Refusal {
     pub number: u8,
     pub at: usize,

@@ -18,7 +18,7 @@ pub const START_BYTES: usize = 12;
 pub const TURN_BYTES: usize = 5;
 
 // A card that was read: the number of its turns, the board that the next turn is played from, and the board after as many turns as
-// were asked, if it has so many. Or the refusal's number and the first byte of the refused record, and the rest says nothing.
+// were asked, if it has so many. Or the refusal's number and the byte where the refused record begins, and the rest says nothing.
 pub struct Reading {
     pub refused: u8,
     pub at: usize,

@@ -1,4 +1,4 @@
-// The game card in C. A number of turns, a new length, or the first byte of a refused record stands above the refusal's number.
+// The game card in C. A number of turns, a new length, or the byte where a refused record begins stands above the refusal's number.
 use card::CardAnswer;
 use card::PositionAnswer;
 ghost use mathlib.Core.Path.{_≡_};

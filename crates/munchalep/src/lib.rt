@@ -113,7 +113,7 @@ pub extern "C" fn munchalep_end(
     put(moves::end(*board, die1, die2, number), out)
 }
 
-// Fills exactly 202 values with the contact net's inputs; any other number of them stays as it was. Lent floats are told by their
+// Fills exactly 202 floats with the contact net's inputs; any other number of them stays as it was. Lent floats are told by their
 // bits, so that a refusal is promised to leave every byte, those of a NaN too.
 #[no_mangle]
 pub extern "C" fn munchalep_contact_inputs(board: &[i8; 26], inputs: &mut [u32]) -> u64
@@ -122,7 +122,7 @@ pub extern "C" fn munchalep_contact_inputs(board: &[i8; 26], inputs: &mut [u32])
     filled_number(inputs::contact_inputs(board, inputs))
 }
 
-// The same of the race net and exactly 186 values.
+// The same of the race net and exactly 186 floats.
 #[no_mangle]
 pub extern "C" fn munchalep_race_inputs(board: &[i8; 26], inputs: &mut [u32]) -> u64
     ensures { λ r. ⌜ (r ≡ packed (raceAnswer checkers (now (board .entry)) (length (now (inputs .entry))))) × (now (inputs .exit) ≡ raceLent checkers (now (board .entry)) (now (inputs .entry))) ⌝ }
@@ -156,7 +156,7 @@ fn filled_number(answer: Filled) -> u64
     }
 }
 
-// The number of one input's answer; its value, if it has one, goes to `out`.
+// The number of one input's answer; the bits of its value, if it has one, go to `out`.
 fn put_input(answer: Input, out: &mut u32) -> u64
     requires { ⌜ T (isNumber (inputTold answer)) ⌝ }
     ensures { λ r. ⌜ PutInput (inputTold answer) (now (out .entry)) r (now (out .exit)) ⌝ }
