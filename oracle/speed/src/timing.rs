@@ -2,8 +2,8 @@
 
 use std::time::{Duration, Instant};
 
-/// Runs of each routine.
-pub const RUNS: usize = 20;
+/// Runs of each routine: so many that the machine is not slow in all of them.
+pub const RUNS: usize = 60;
 
 /// The nanoseconds that a call of each routine takes in its shortest run. All have to find the
 /// same. The routines take turns, so that what else the machine does falls on all of them.
