@@ -6,23 +6,13 @@
 // a card that is read, the start record is then written anew from position 0, and the last turn's from the last two positions.
 ghost use Prim.Native.Nat.{_+_, _<_, _≤_};
 ghost use lib.ListN.{length};
-use libc::STDERR_FILENO;
-use libc::STDOUT_FILENO;
+use stored::MOST;
+use stored::Tally;
 
 const HEAD: usize = 89;
 
 // The longest card that is stored.
 const ROOM: usize = 5100;
-
-// More records than a file of this kind has: the program ends whatever it reads.
-const MOST: u64 = 100000;
-
-// How many cards were replayed, how many of them differ, and whether the file ended where a record does.
-struct Tally {
-    replayed: u64,
-    differ: u64,
-    whole: bool,
-}
 
 fn main() {
     let path = b"cards.bin";
@@ -35,18 +25,7 @@ fn main() {
     let mut buffer = [0u8; ROOM];
     let tally = replay(file, &mut card, &mut buffer);
     libc::close(file);
-    if !tally.whole {
-        io::write_all(
-            STDERR_FILENO,
-            b"cards.bin: it must end where a record does, with cards of at most 5100 bytes\n",
-        );
-        return;
-    }
-    io::write_all(STDOUT_FILENO, b"cards: ");
-    io::print_decimal(STDOUT_FILENO, tally.replayed);
-    io::write_all(STDOUT_FILENO, b" cards replayed, ");
-    io::print_decimal(STDOUT_FILENO, tally.differ);
-    io::write_all(STDOUT_FILENO, b" differ\n");
+    stored::tell(path, b"cards", tally);
 }
 
 // Replays the records of a file, one after another, each card in the same memory.
@@ -62,7 +41,7 @@ fn replay(file: i32, card: &mut [u8], buffer: &mut [u8]) -> Tally {
                 whole: got == 0,
             };
         }
-        let length = number(&head, 0) as usize;
+        let length = stored::two(&head, 0) as usize;
         if !fill(file, card, length) {
             return Tally {
                 replayed,
@@ -88,7 +67,7 @@ fn fill(file: i32, card: &mut [u8], length: usize) -> bool {
 }
 
 // 1 where an answer or what is written is not as stored, else 0.
-fn differs(head: &[u8; HEAD], card: &[u8], length: usize, buffer: &mut [u8]) -> u64
+fn differs(head: &[u8], card: &[u8], length: usize, buffer: &mut [u8]) -> u64
     ensures { λ r. ⌜ r ≤ 1 ⌝ }
 {
     if card.len() < length {
@@ -97,17 +76,17 @@ fn differs(head: &[u8; HEAD], card: &[u8], length: usize, buffer: &mut [u8]) -> 
     if !holds(head, &card[..length]) {
         return 1;
     }
-    if head[2] != 0 {
+    if stored::byte(head, 2) != 0 {
         return 0;
     }
-    if !is_written(&card[..length], number(head, 3) as usize, buffer) {
+    if !is_written(&card[..length], stored::two(head, 3) as usize, buffer) {
         return 1;
     }
     0
 }
 
 // Whether reading the card and asking its positions answer as stored.
-fn holds(head: &[u8; HEAD], card: &[u8]) -> bool {
+fn holds(head: &[u8], card: &[u8]) -> bool {
     if munchalep::game_card::munchalep_card_read(card) != read_answer(head) {
         return false;
     }
@@ -121,44 +100,32 @@ fn holds(head: &[u8; HEAD], card: &[u8]) -> bool {
 }
 
 // Whether the position whose number stands at byte `at` of the head is answered as stored.
-fn position_holds(head: &[u8; HEAD], at: usize, card: &[u8]) -> bool
+fn position_holds(head: &[u8], at: usize, card: &[u8]) -> bool
     requires { ⌜ at + 28 < 90 ⌝ }
 {
-    let k = number(head, at);
+    let k = stored::two(head, at);
     let mut out = [85i8; 26];
     let answer = munchalep::game_card::munchalep_card_position(card, k as usize, &mut out);
     if answer != position_answer(head, k) {
         return false;
     }
-    is_stored(&out, head, at + 2)
+    stored::is_board(&out, head, at + 2)
 }
 
 // The stored answer of reading.
-fn read_answer(head: &[u8; HEAD]) -> u64 {
-    wide(head[2]) + 256 * number(head, 3)
+fn read_answer(head: &[u8]) -> u64 {
+    stored::wide(stored::byte(head, 2)) + 256 * stored::two(head, 3)
 }
 
 // The answer of position `k`, as it follows from the stored one of reading.
-fn position_answer(head: &[u8; HEAD], k: u64) -> u64 {
-    if head[2] != 0 {
+fn position_answer(head: &[u8], k: u64) -> u64 {
+    if stored::byte(head, 2) != 0 {
         return read_answer(head);
     }
-    if k > number(head, 3) {
+    if k > stored::two(head, 3) {
         return 36;
     }
     0
-}
-
-// Whether a board's entries are those stored from byte `at` on, two's complement.
-fn is_stored(board: &[i8; 26], head: &[u8; HEAD], at: usize) -> bool
-    requires { ⌜ at + 26 < 90 ⌝ }
-{
-    for i in 0..26 {
-        if board[i] != ints::entry_of(head[at + i]) {
-            return false;
-        }
-    }
-    true
 }
 
 // Whether the records of the start and of the last turn are written as the card has them, from its positions.
@@ -178,7 +145,7 @@ fn is_written(card: &[u8], turns: usize, buffer: &mut [u8]) -> bool {
     }
     let length = card.len() - 5;
     copy_turns(card, length, buffer);
-    let dice = wide(card[length + 2]);
+    let dice = stored::wide(card[length + 2]);
     let last = position(card, turns);
     let answer = munchalep::game_card::munchalep_card_add(
         buffer,
@@ -223,19 +190,4 @@ fn is_copy(card: &[u8], buffer: &[u8]) -> bool {
         }
     }
     true
-}
-
-// The number in two bytes from `at` on, low byte first.
-fn number(head: &[u8; HEAD], at: usize) -> u64
-    requires { ⌜ at + 1 < 89 ⌝ }
-    ensures { λ r. ⌜ r < 65536 ⌝ }
-{
-    wide(head[at]) + 256 * wide(head[at + 1])
-}
-
-// A byte as a wider number.
-fn wide(byte: u8) -> u64
-    ensures { λ r. ⌜ r < 256 ⌝ }
-{
-    byte as u64
 }

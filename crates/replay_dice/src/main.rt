@@ -2,11 +2,10 @@
 //
 // The file dice.bin has 799 answers: the 21 rolls and the 441 pairs, four bytes each, low byte first; then one byte each,
 // for every two dice from 0 to 8 the dice byte, 0 where they are refused, and for every byte whether it is that of a roll.
-ghost use Prim.Native.Nat.{_+_, _<_, _≤_};
+ghost use Prim.Native.Nat.{_<_, _≤_};
 use dice::Dice;
 use dice::DiceByte;
-use libc::STDERR_FILENO;
-use libc::STDOUT_FILENO;
+use stored::Tally;
 
 // 21 + 441 answers of four bytes and 81 + 256 of one.
 const BYTES: usize = 2185;
@@ -18,33 +17,32 @@ fn main() {
         os::fail(path);
         return;
     }
-    let mut stored = io::buffer();
-    let got = io::read_full(file, &mut stored);
+    let mut answers = io::buffer();
+    let got = io::read_full(file, &mut answers);
     libc::close(file);
-    if got != BYTES {
-        io::write_all(STDERR_FILENO, b"dice.bin: it must have 2185 bytes\n");
-        return;
-    }
-    io::write_all(STDOUT_FILENO, b"dice: 799 answers replayed, ");
-    io::print_decimal(STDOUT_FILENO, differing(&stored));
-    io::write_all(STDOUT_FILENO, b" differ\n");
+    let tally = Tally {
+        replayed: 799,
+        differ: differing(&answers),
+        whole: got == BYTES,
+    };
+    stored::tell(path, b"answers", tally);
 }
 
-// How many of the 799 stored answers are not the crate's.
-fn differing(stored: &[u8; 4096]) -> u64 {
+// How many of the stored answers are not the crate's.
+fn differing(answers: &[u8]) -> u64 {
     let mut differ = 0;
     for k in 0..799 {
-        differ += differs(stored, k);
+        differ += differs(answers, k);
     }
     differ
 }
 
 // 1 where stored answer k is not the crate's, else 0.
-fn differs(stored: &[u8; 4096], k: usize) -> u64
+fn differs(answers: &[u8], k: usize) -> u64
     requires { ⌜ k < 799 ⌝ }
     ensures { λ r. ⌜ r ≤ 1 ⌝ }
 {
-    if stored_answer(stored, k) != answer(k) {
+    if stored_answer(answers, k) != answer(k) as u64 {
         1
     } else {
         0
@@ -52,31 +50,13 @@ fn differs(stored: &[u8; 4096], k: usize) -> u64
 }
 
 // Stored answer k: four bytes each below 462, and one each from there on.
-fn stored_answer(stored: &[u8; 4096], k: usize) -> u32
+fn stored_answer(answers: &[u8], k: usize) -> u64
     requires { ⌜ k < 799 ⌝ }
 {
     if k < 462 {
-        number(stored, 4 * k)
-    } else {
-        wide(stored[4 * 462 + (k - 462)])
+        return stored::four(answers, 4 * k);
     }
-}
-
-// The number in four bytes from `at` on, low byte first.
-fn number(stored: &[u8; 4096], at: usize) -> u32
-    requires { ⌜ at + 3 < 4096 ⌝ }
-{
-    wide(stored[at])
-        + 256 * wide(stored[at + 1])
-        + 65536 * wide(stored[at + 2])
-        + 16777216 * wide(stored[at + 3])
-}
-
-// A byte as a wider number.
-fn wide(byte: u8) -> u32
-    ensures { λ r. ⌜ r < 256 ⌝ }
-{
-    byte as u32
+    stored::wide(stored::byte(answers, 4 * 462 + (k - 462)))
 }
 
 // What the crate answers at k.
@@ -98,7 +78,7 @@ fn answer(k: usize) -> u32
 // The dice byte of two dice, or 0 where they are refused.
 fn byte_or_0(die1: usize, die2: usize) -> u32 {
     match dice::dice_byte(die1, die2) {
-        DiceByte::Byte(byte) => wide(byte),
+        DiceByte::Byte(byte) => byte as u32,
         DiceByte::Refused(_) => 0,
     }
 }

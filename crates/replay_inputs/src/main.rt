@@ -4,9 +4,9 @@
 // the refusal's number, and 203 of the lent floats afterwards, each as the whole number that it equals: 85 where it stays as it was,
 // and after the last. Each input is then asked by its place, and has to be the float that stands there. Floats are compared by their
 // bits.
-ghost use Prim.Native.Nat.{_≤_, _<_};
-use libc::STDERR_FILENO;
-use libc::STDOUT_FILENO;
+ghost use Prim.Native.Nat.{_≤_};
+use stored::MOST;
+use stored::Tally;
 
 const RECORD: usize = 232;
 
@@ -19,16 +19,6 @@ const FIRST: usize = 29;
 // What a float that stays holds: the bits of a NaN, which no input has.
 const STAYS: u32 = 0x7FA5_5A55;
 
-// More records than a file of this kind has: the program ends whatever it reads.
-const MOST: u64 = 1000000;
-
-// How many records were replayed, how many of them differ, and whether the file ended where a record does.
-struct Tally {
-    replayed: u64,
-    differ: u64,
-    whole: bool,
-}
-
 fn main() {
     let path = b"inputs.bin";
     let file = os::open_read(path);
@@ -38,18 +28,7 @@ fn main() {
     }
     let tally = replay(file);
     libc::close(file);
-    if !tally.whole {
-        io::write_all(
-            STDERR_FILENO,
-            b"inputs.bin: its length must be a multiple of 232, and at most 232 million\n",
-        );
-        return;
-    }
-    io::write_all(STDOUT_FILENO, b"inputs: ");
-    io::print_decimal(STDOUT_FILENO, tally.replayed);
-    io::write_all(STDOUT_FILENO, b" answers replayed, ");
-    io::print_decimal(STDOUT_FILENO, tally.differ);
-    io::write_all(STDOUT_FILENO, b" differ\n");
+    stored::tell(path, b"answers", tally);
 }
 
 // Replays the records of a file, one after another.
@@ -75,16 +54,16 @@ fn replay(file: i32) -> Tally {
 }
 
 // 1 where an answer, or a lent float, is not the stored one, else 0.
-fn differs(record: &[u8; RECORD]) -> u64
+fn differs(record: &[u8]) -> u64
     ensures { λ r. ⌜ r ≤ 1 ⌝ }
 {
     let length = length(record);
     if length > FLOATS {
         return 1;
     }
-    let board = board(record);
+    let board = stored::board(record, 2);
     let mut floats = [STAYS; FLOATS];
-    if fill(record[0], &board, &mut floats[..length]) != refusal(record) {
+    if fill(stored::byte(record, 0), &board, &mut floats[..length]) != refusal(record) {
         return 1;
     }
     if !holds(&floats, record) {
@@ -117,9 +96,9 @@ fn ask(net: u8, board: &[i8; 26], place: usize, out: &mut u32) -> u64 {
 }
 
 // Whether the floats are the stored ones.
-fn holds(floats: &[u32; FLOATS], record: &[u8; RECORD]) -> bool {
+fn holds(floats: &[u32; FLOATS], record: &[u8]) -> bool {
     for i in 0..FLOATS {
-        if floats[i] != bits(record[FIRST + i]) {
+        if floats[i] != bits(stored::byte(record, FIRST + i)) {
             return false;
         }
     }
@@ -127,13 +106,13 @@ fn holds(floats: &[u32; FLOATS], record: &[u8; RECORD]) -> bool {
 }
 
 // Whether each input by its place is the stored one, and none is given after the last.
-fn places_hold(board: &[i8; 26], record: &[u8; RECORD]) -> bool {
+fn places_hold(board: &[i8; 26], record: &[u8]) -> bool {
     for place in 0..FLOATS {
         let mut out = STAYS;
-        if ask(record[0], board, place, &mut out) != refusal_at(record, place) {
+        if ask(stored::byte(record, 0), board, place, &mut out) != refusal_at(record, place) {
             return false;
         }
-        if out != bits(record[FIRST + place]) {
+        if out != bits(stored::byte(record, FIRST + place)) {
             return false;
         }
     }
@@ -141,7 +120,7 @@ fn places_hold(board: &[i8; 26], record: &[u8; RECORD]) -> bool {
 }
 
 // The refusal of an input by its place: that of the record, or 14 after the last.
-fn refusal_at(record: &[u8; RECORD], place: usize) -> u64 {
+fn refusal_at(record: &[u8], place: usize) -> u64 {
     let refusal = refusal(record);
     if refusal != 0 {
         return refusal;
@@ -152,30 +131,14 @@ fn refusal_at(record: &[u8; RECORD], place: usize) -> u64 {
     14
 }
 
-// The record's board, two's complement.
-fn board(record: &[u8; RECORD]) -> [i8; 26] {
-    let mut board = [0i8; 26];
-    for i in 0..26 {
-        board[i] = ints::entry_of(record[2 + i]);
-    }
-    board
-}
-
 // How many floats the record lends.
-fn length(record: &[u8; RECORD]) -> usize {
-    wide(record[1])
+fn length(record: &[u8]) -> usize {
+    stored::wide(stored::byte(record, 1)) as usize
 }
 
 // The record's refusal.
-fn refusal(record: &[u8; RECORD]) -> u64 {
-    wide(record[28]) as u64
-}
-
-// A byte as a wider number.
-fn wide(byte: u8) -> usize
-    ensures { λ r. ⌜ r < 256 ⌝ }
-{
-    byte as usize
+fn refusal(record: &[u8]) -> u64 {
+    stored::wide(stored::byte(record, 28))
 }
 
 // The bits of a stored float.

@@ -3,21 +3,11 @@
 // The file key.bin has one record of 45 bytes an answer: the kind, 26 bytes of a board, ten of a key, and the answer in eight, low
 // byte first. Kind 0 writes the key of the board, kind 1 reads the board of the key. What is written or read stands in the record as
 // the out parameter holds it afterwards: 85 in each byte where it stays as it was.
-ghost use Prim.Native.Nat.{_+_, _<_, _≤_};
-use libc::STDERR_FILENO;
-use libc::STDOUT_FILENO;
+ghost use Prim.Native.Nat.{_≤_};
+use stored::MOST;
+use stored::Tally;
 
 const RECORD: usize = 45;
-
-// More records than a file of this kind has: the program ends whatever it reads.
-const MOST: u64 = 1000000;
-
-// How many records were replayed, how many of them differ, and whether the file ended where a record does.
-struct Tally {
-    replayed: u64,
-    differ: u64,
-    whole: bool,
-}
 
 fn main() {
     let path = b"key.bin";
@@ -28,18 +18,7 @@ fn main() {
     }
     let tally = replay(file);
     libc::close(file);
-    if !tally.whole {
-        io::write_all(
-            STDERR_FILENO,
-            b"key.bin: its length must be a multiple of 45, and at most 45 million\n",
-        );
-        return;
-    }
-    io::write_all(STDOUT_FILENO, b"key: ");
-    io::print_decimal(STDOUT_FILENO, tally.replayed);
-    io::write_all(STDOUT_FILENO, b" answers replayed, ");
-    io::print_decimal(STDOUT_FILENO, tally.differ);
-    io::write_all(STDOUT_FILENO, b" differ\n");
+    stored::tell(path, b"answers", tally);
 }
 
 // Replays the records of a file, one after another.
@@ -65,86 +44,52 @@ fn replay(file: i32) -> Tally {
 }
 
 // 1 where the answer, or a byte of the out parameter, is not the stored one, else 0.
-fn differs(record: &[u8; RECORD]) -> u64
+fn differs(record: &[u8]) -> u64
     ensures { λ r. ⌜ r ≤ 1 ⌝ }
 {
-    let stored_board = board(record);
-    let stored_key = key(record);
-    if record[0] == 0 {
-        let mut out = [85u8; 10];
-        if munchalep::munchalep_key(&stored_board, &mut out) != number(record) {
-            return 1;
-        }
-        return keys_differ(&out, &stored_key);
+    if stored::byte(record, 0) == 0 {
+        return written_differs(record);
     }
-    let mut out = [85i8; 26];
-    if munchalep::munchalep_board_of_key(&stored_key, &mut out) != number(record) {
+    read_differs(record)
+}
+
+// The same of the key that is written of the record's board.
+fn written_differs(record: &[u8]) -> u64
+    ensures { λ r. ⌜ r ≤ 1 ⌝ }
+{
+    let board = stored::board(record, 1);
+    let mut out = [85u8; 10];
+    if munchalep::munchalep_key(&board, &mut out) != stored::eight(record, 37) {
         return 1;
     }
-    boards_differ(&out, &stored_board)
-}
-
-// 1 where two keys are not the same, else 0.
-fn keys_differ(one: &[u8; 10], other: &[u8; 10]) -> u64
-    ensures { λ r. ⌜ r ≤ 1 ⌝ }
-{
     for i in 0..10 {
-        if one[i] != other[i] {
+        if out[i] != stored::byte(record, 27 + i) {
             return 1;
         }
     }
     0
 }
 
-// 1 where two boards are not the same, else 0.
-fn boards_differ(one: &[i8; 26], other: &[i8; 26]) -> u64
+// The same of the board that is read of the record's key.
+fn read_differs(record: &[u8]) -> u64
     ensures { λ r. ⌜ r ≤ 1 ⌝ }
 {
-    for i in 0..26 {
-        if one[i] != other[i] {
-            return 1;
-        }
+    let key = key(record);
+    let mut out = [85i8; 26];
+    if munchalep::munchalep_board_of_key(&key, &mut out) != stored::eight(record, 37) {
+        return 1;
+    }
+    if !stored::is_board(&out, record, 1) {
+        return 1;
     }
     0
-}
-
-// The record's board, two's complement.
-fn board(record: &[u8; RECORD]) -> [i8; 26] {
-    let mut board = [0i8; 26];
-    for i in 0..26 {
-        board[i] = ints::entry_of(record[1 + i]);
-    }
-    board
 }
 
 // The record's key.
-fn key(record: &[u8; RECORD]) -> [u8; 10] {
+fn key(record: &[u8]) -> [u8; 10] {
     let mut key = [0u8; 10];
     for i in 0..10 {
-        key[i] = record[27 + i];
+        key[i] = stored::byte(record, 27 + i);
     }
     key
-}
-
-// The record's answer.
-fn number(record: &[u8; RECORD]) -> u64 {
-    half(record, 37) + 4294967296 * half(record, 41)
-}
-
-// The number in four bytes from `at` on, low byte first.
-fn half(record: &[u8; RECORD], at: usize) -> u64
-    requires { ⌜ at + 3 < 45 ⌝ }
-    ensures { λ r. ⌜ r < 4294967296 ⌝ }
-{
-    wide(record[at])
-        + 256 * wide(record[at + 1])
-        + 65536 * wide(record[at + 2])
-        + 16777216 * wide(record[at + 3])
-}
-
-// A byte as a wider number.
-fn wide(byte: u8) -> u64
-    ensures { λ r. ⌜ r < 256 ⌝ }
-{
-    byte as u64
 }

@@ -3,22 +3,12 @@
 // The file recovery.bin has one record of 64 bytes an answer: 26 of the board, 26 of the end before switching, the two dice, the
 // refusal's number, the number of steps, and eight of the steps, each a from and a to, with zeros after them. It asks the function
 // that gives them by value: code that makes a row of structs to lend has no proof that the tool writes.
-ghost use Prim.Native.Nat.{_+_, _<_, _≤_};
+ghost use Prim.Native.Nat.{_≤_};
 use bg_move::Steps;
-use libc::STDERR_FILENO;
-use libc::STDOUT_FILENO;
+use stored::MOST;
+use stored::Tally;
 
 const RECORD: usize = 64;
-
-// More records than a file of this kind has: the program ends whatever it reads.
-const MOST: u64 = 1000000;
-
-// How many records were replayed, how many of them differ, and whether the file ended where a record does.
-struct Tally {
-    replayed: u64,
-    differ: u64,
-    whole: bool,
-}
 
 fn main() {
     let path = b"recovery.bin";
@@ -29,18 +19,7 @@ fn main() {
     }
     let tally = replay(file);
     libc::close(file);
-    if !tally.whole {
-        io::write_all(
-            STDERR_FILENO,
-            b"recovery.bin: its length must be a multiple of 64, and at most 64 million\n",
-        );
-        return;
-    }
-    io::write_all(STDOUT_FILENO, b"recovery: ");
-    io::print_decimal(STDOUT_FILENO, tally.replayed);
-    io::write_all(STDOUT_FILENO, b" answers replayed, ");
-    io::print_decimal(STDOUT_FILENO, tally.differ);
-    io::write_all(STDOUT_FILENO, b" differ\n");
+    stored::tell(path, b"answers", tally);
 }
 
 // Replays the records of a file, one after another.
@@ -66,17 +45,17 @@ fn replay(file: i32) -> Tally {
 }
 
 // 1 where the refusal or the steps are not the stored ones, else 0.
-fn differs(record: &[u8; RECORD]) -> u64
+fn differs(record: &[u8]) -> u64
     ensures { λ r. ⌜ r ≤ 1 ⌝ }
 {
-    let old = board(record, 0);
-    let end = board(record, 26);
-    let found = bg_move::recover(old, end, wide(record[52]), wide(record[53]));
-    if found.refused != record[54] {
+    let old = stored::board(record, 0);
+    let end = stored::board(record, 26);
+    let found = bg_move::recover(old, end, die(record, 52), die(record, 53));
+    if found.refused != stored::byte(record, 54) {
         return 1;
     }
     let steps = found.steps;
-    if steps.count != record[55] {
+    if steps.count != stored::byte(record, 55) {
         return 1;
     }
     if !holds(steps, record) {
@@ -86,32 +65,19 @@ fn differs(record: &[u8; RECORD]) -> u64
 }
 
 // Whether all four places are the stored ones.
-fn holds(steps: Steps, record: &[u8; RECORD]) -> bool {
+fn holds(steps: Steps, record: &[u8]) -> bool {
     for i in 0..4 {
-        if steps.from[i] != record[56 + 2 * i] {
+        if steps.from[i] != stored::byte(record, 56 + 2 * i) {
             return false;
         }
-        if steps.to[i] != record[57 + 2 * i] {
+        if steps.to[i] != stored::byte(record, 57 + 2 * i) {
             return false;
         }
     }
     true
 }
 
-// The 26 entries from byte `at` on, two's complement.
-fn board(record: &[u8; RECORD], at: usize) -> [i8; 26]
-    requires { ⌜ at + 26 < 65 ⌝ }
-{
-    let mut board = [0i8; 26];
-    for i in 0..26 {
-        board[i] = ints::entry_of(record[at + i]);
-    }
-    board
-}
-
-// A byte as a wider number.
-fn wide(byte: u8) -> usize
-    ensures { λ r. ⌜ r < 256 ⌝ }
-{
-    byte as usize
+// The die in byte `at`.
+fn die(record: &[u8], at: usize) -> usize {
+    stored::wide(stored::byte(record, at)) as usize
 }

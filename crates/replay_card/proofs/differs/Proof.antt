@@ -18,8 +18,8 @@ holds-requires c κs = search needs
 returns-2 : tie.Need-returns-2
 returns-2 c = search needs
 
-element-copy-out-if3 : tie.Need-element-copy-out-if3
-element-copy-out-if3 c = search needs
+byte-requires : tie.Need-byte-requires
+byte-requires c κs = search needs
 
 returns-3 : tie.Need-returns-3
 returns-3 c = search needs
@@ -27,8 +27,8 @@ returns-3 c = search needs
 slice-aggregate-is-written : tie.Need-slice-aggregate-is-written
 slice-aggregate-is-written c = sym (length-take-le _ _ (omega arith))
 
-number-requires : tie.Need-number-requires
-number-requires c κs = search needs
+two-requires : tie.Need-two-requires
+two-requires c κs = search needs
 
 is-written-requires : tie.Need-is-written-requires
 is-written-requires c κs = search needs
@@ -53,10 +53,10 @@ differs-spec =
     slice-aggregate-holds
     holds-requires
     returns-2
-    element-copy-out-if3
+    byte-requires
     returns-3
     slice-aggregate-is-written
-    number-requires
+    two-requires
     is-written-requires
     same-length
     returns-4

@@ -8,10 +8,10 @@ use Rattle.replay_card.proofs.replay.Tie as tie
 
 abbrev Inv-loop : tie.InvT-loop
 Inv-loop file card₀ buffer₀ differ₀ replayed₀ card buffer differ replayed =
-    (replayed ≤ 100000) × (differ ≤ replayed) × (length card ≡ length card₀) × (length buffer ≡ length buffer₀)
+    (replayed ≤ 1000000) × (differ ≤ replayed) × (length card ≡ length card₀) × (length buffer ≡ length buffer₀)
 
 abbrev μ-loop : tie.MeasureT-loop
-μ-loop file card₀ buffer₀ differ₀ replayed₀ card buffer differ replayed = 100000 - replayed
+μ-loop file card₀ buffer₀ differ₀ replayed₀ card buffer differ replayed = 1000000 - replayed
 
 loop-holds : tie.Need-loop-holds Inv-loop μ-loop
 loop-holds c = search needs
@@ -31,8 +31,11 @@ same-length-2 c = search needs
 returns : tie.Need-returns Inv-loop μ-loop
 returns c = search needs
 
-number-requires : tie.Need-number-requires Inv-loop μ-loop
-number-requires c κs = search needs
+slice-aggregate-two : tie.Need-slice-aggregate-two Inv-loop μ-loop
+slice-aggregate-two c = search needs
+
+two-requires : tie.Need-two-requires Inv-loop μ-loop
+two-requires c κs = search needs
 
 fill-requires : tie.Need-fill-requires Inv-loop μ-loop
 fill-requires c κs = search needs
@@ -45,6 +48,9 @@ same-length-4 c = search needs
 
 returns-2 : tie.Need-returns-2 Inv-loop μ-loop
 returns-2 c = search needs
+
+slice-aggregate-differs : tie.Need-slice-aggregate-differs Inv-loop μ-loop
+slice-aggregate-differs c = search needs
 
 differs-requires : tie.Need-differs-requires Inv-loop μ-loop
 differs-requires c κs = search needs
@@ -82,11 +88,13 @@ replay-spec =
     same-length
     same-length-2
     returns
-    number-requires
+    slice-aggregate-two
+    two-requires
     fill-requires
     same-length-3
     same-length-4
     returns-2
+    slice-aggregate-differs
     differs-requires
     add-differ
     add-replayed

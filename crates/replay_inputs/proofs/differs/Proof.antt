@@ -15,8 +15,8 @@ returns c = search needs
 board-requires : tie.Need-board-requires
 board-requires c κs = search needs
 
-element-copy-out-fill : tie.Need-element-copy-out-fill
-element-copy-out-fill c = search needs
+byte-requires : tie.Need-byte-requires
+byte-requires c κs = search needs
 
 array-borrow-prefix-floats : tie.Need-array-borrow-prefix-floats
 array-borrow-prefix-floats c = search needs
@@ -61,7 +61,7 @@ differs-spec =
     length-requires
     returns
     board-requires
-    element-copy-out-fill
+    byte-requires
     array-borrow-prefix-floats
     slice-aggregate-fill
     fill-requires

@@ -1,4 +1,4 @@
--- `replay_inputs::holds` reads within bounds.
+-- `replay_inputs::holds` reads within the floats.
 use Prim.Native.Nat.{_-_, _≤_}
 use borrow.Author.Needs.{needs}
 use Rattle.replay_inputs.proofs.holds.Statement.{statement}
@@ -19,11 +19,11 @@ mul-if1 c = search needs
 element-copy-out-if1 : tie.Need-element-copy-out-if1 Inv-loop μ-loop
 element-copy-out-if1 c = search needs
 
-add-bits : tie.Need-add-bits Inv-loop μ-loop
-add-bits c = search needs
+add-byte : tie.Need-add-byte Inv-loop μ-loop
+add-byte c = search needs
 
-element-copy-out-bits : tie.Need-element-copy-out-bits Inv-loop μ-loop
-element-copy-out-bits c = search needs
+byte-requires : tie.Need-byte-requires Inv-loop μ-loop
+byte-requires c κs = search needs
 
 bits-requires : tie.Need-bits-requires Inv-loop μ-loop
 bits-requires c κs = search needs
@@ -52,8 +52,8 @@ holds-spec =
     loop-holds
     mul-if1
     element-copy-out-if1
-    add-bits
-    element-copy-out-bits
+    add-byte
+    byte-requires
     bits-requires
     returns
     add-i

@@ -1,4 +1,4 @@
--- `replay_inputs::places_hold` reads within bounds.
+-- `replay_inputs::places_hold` ends.
 use Prim.Native.Nat.{_-_, _≤_}
 use borrow.Author.Needs.{needs}
 use Rattle.replay_inputs.proofs.places_hold.Statement.{statement}
@@ -13,8 +13,8 @@ abbrev μ-loop : tie.MeasureT-loop
 loop-holds : tie.Need-loop-holds Inv-loop μ-loop
 loop-holds c = search needs
 
-element-copy-out-ask : tie.Need-element-copy-out-ask Inv-loop μ-loop
-element-copy-out-ask c = search needs
+byte-requires : tie.Need-byte-requires Inv-loop μ-loop
+byte-requires c κs = search needs
 
 ask-requires : tie.Need-ask-requires Inv-loop μ-loop
 ask-requires c κs = search needs
@@ -25,11 +25,11 @@ refusal-at-requires c κs = search needs
 returns : tie.Need-returns Inv-loop μ-loop
 returns c = search needs
 
-add-bits : tie.Need-add-bits Inv-loop μ-loop
-add-bits c = search needs
+add-byte : tie.Need-add-byte Inv-loop μ-loop
+add-byte c = search needs
 
-element-copy-out-bits : tie.Need-element-copy-out-bits Inv-loop μ-loop
-element-copy-out-bits c = search needs
+byte-requires-2 : tie.Need-byte-requires-2 Inv-loop μ-loop
+byte-requires-2 c κs = search needs
 
 bits-requires : tie.Need-bits-requires Inv-loop μ-loop
 bits-requires c κs = search needs
@@ -56,12 +56,12 @@ places-hold-spec =
     Inv-loop
     μ-loop
     loop-holds
-    element-copy-out-ask
+    byte-requires
     ask-requires
     refusal-at-requires
     returns
-    add-bits
-    element-copy-out-bits
+    add-byte
+    byte-requires-2
     bits-requires
     returns-2
     add-place

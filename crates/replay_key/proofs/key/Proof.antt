@@ -1,4 +1,4 @@
--- `replay_key::key` reads and writes within bounds.
+-- `replay_key::key` writes within the key.
 use Prim.Native.Nat.{_-_, _≤_}
 use borrow.Author.Needs.{needs}
 use Rattle.replay_key.proofs.key.Statement.{statement}
@@ -13,11 +13,11 @@ abbrev μ-loop : tie.MeasureT-loop
 loop-holds : tie.Need-loop-holds Inv-loop μ-loop
 loop-holds c = search needs
 
-add-key : tie.Need-add-key Inv-loop μ-loop
-add-key c = search needs
+add-byte : tie.Need-add-byte Inv-loop μ-loop
+add-byte c = search needs
 
-element-copy-out-key : tie.Need-element-copy-out-key Inv-loop μ-loop
-element-copy-out-key c = search needs
+byte-requires : tie.Need-byte-requires Inv-loop μ-loop
+byte-requires c κs = search needs
 
 array-write-key : tie.Need-array-write-key Inv-loop μ-loop
 array-write-key c = search needs
@@ -41,8 +41,8 @@ key-spec =
     Inv-loop
     μ-loop
     loop-holds
-    add-key
-    element-copy-out-key
+    add-byte
+    byte-requires
     array-write-key
     add-i
     loop-less

@@ -22,6 +22,9 @@ read-full-requires c κs = search needs
 returns : tie.Need-returns Inv-loop μ-loop
 returns c = search needs
 
+slice-aggregate-differs : tie.Need-slice-aggregate-differs Inv-loop μ-loop
+slice-aggregate-differs c = search needs
+
 differs-requires : tie.Need-differs-requires Inv-loop μ-loop
 differs-requires c κs = search needs
 
@@ -50,6 +53,7 @@ replay-spec =
     slice-aggregate-read-full
     read-full-requires
     returns
+    slice-aggregate-differs
     differs-requires
     add-differ
     add-replayed

@@ -28,6 +28,9 @@ same-length c = search needs
 returns : tie.Need-returns Inv-loop μ-loop
 returns c = search needs
 
+slice-aggregate-differs : tie.Need-slice-aggregate-differs Inv-loop μ-loop
+slice-aggregate-differs c = search needs
+
 differs-requires : tie.Need-differs-requires Inv-loop μ-loop
 differs-requires c κs = search needs
 
@@ -60,6 +63,7 @@ replay-spec =
     read-full-requires
     same-length
     returns
+    slice-aggregate-differs
     differs-requires
     add-differ
     add-replayed

@@ -1,8 +1,8 @@
--- `replay_position::entries` reads and writes within bounds: the 26 bytes lie in the record.
+-- `stored::board` writes within the board.
 use Prim.Native.Nat.{_-_, _≤_}
 use borrow.Author.Needs.{needs}
-use Rattle.replay_position.proofs.entries.Statement.{statement}
-use Rattle.replay_position.proofs.entries.Tie as tie
+use Rattle.stored.proofs.board.Statement.{statement}
+use Rattle.stored.proofs.board.Tie as tie
 
 abbrev Inv-loop : tie.InvT-loop
 Inv-loop «record» at board₀ i₀ board i = i ≤ 26
@@ -13,11 +13,11 @@ abbrev μ-loop : tie.MeasureT-loop
 loop-holds : tie.Need-loop-holds Inv-loop μ-loop
 loop-holds c = search needs
 
-add-entry-of : tie.Need-add-entry-of Inv-loop μ-loop
-add-entry-of c = search needs
+add-byte : tie.Need-add-byte Inv-loop μ-loop
+add-byte c = search needs
 
-element-copy-out-entry-of : tie.Need-element-copy-out-entry-of Inv-loop μ-loop
-element-copy-out-entry-of c = search needs
+byte-requires : tie.Need-byte-requires Inv-loop μ-loop
+byte-requires c κs = search needs
 
 entry-of-requires : tie.Need-entry-of-requires Inv-loop μ-loop
 entry-of-requires c κs = search needs
@@ -37,15 +37,15 @@ loop-again c = search needs
 returns : tie.Need-returns Inv-loop μ-loop
 returns c = search needs
 
-pub entries-spec : {M : Type 1} → statement M
-entries-spec =
+pub board-spec : {M : Type 1} → statement M
+board-spec =
     tie.close
     (tie.spec
     Inv-loop
     μ-loop
     loop-holds
-    add-entry-of
-    element-copy-out-entry-of
+    add-byte
+    byte-requires
     entry-of-requires
     array-set-from-board
     add-i

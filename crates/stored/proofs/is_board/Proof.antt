@@ -1,17 +1,14 @@
--- `replay_position::holds` reads within bounds.
+-- `stored::is_board` reads within the board.
 use Prim.Native.Nat.{_-_, _≤_}
 use borrow.Author.Needs.{needs}
-use Rattle.replay_position.proofs.holds.Statement.{statement}
-use Rattle.replay_position.proofs.holds.Tie as tie
+use Rattle.stored.proofs.is_board.Statement.{statement}
+use Rattle.stored.proofs.is_board.Tie as tie
 
 abbrev Inv-loop : tie.InvT-loop
-Inv-loop out «record» stored i₀ i = i ≤ 26
+Inv-loop board «record» at i₀ i = i ≤ 26
 
 abbrev μ-loop : tie.MeasureT-loop
-μ-loop out «record» stored i₀ i = 26 - i
-
-entries-requires : tie.Need-entries-requires Inv-loop μ-loop
-entries-requires c κs = search needs
+μ-loop board «record» at i₀ i = 26 - i
 
 loop-holds : tie.Need-loop-holds Inv-loop μ-loop
 loop-holds c = search needs
@@ -19,8 +16,14 @@ loop-holds c = search needs
 element-copy-out-if1 : tie.Need-element-copy-out-if1 Inv-loop μ-loop
 element-copy-out-if1 c = search needs
 
-array-copy-out-if1 : tie.Need-array-copy-out-if1 Inv-loop μ-loop
-array-copy-out-if1 c = search needs
+add-byte : tie.Need-add-byte Inv-loop μ-loop
+add-byte c = search needs
+
+byte-requires : tie.Need-byte-requires Inv-loop μ-loop
+byte-requires c κs = search needs
+
+entry-of-requires : tie.Need-entry-of-requires Inv-loop μ-loop
+entry-of-requires c κs = search needs
 
 returns : tie.Need-returns Inv-loop μ-loop
 returns c = search needs
@@ -37,16 +40,17 @@ loop-again c = search needs
 returns-2 : tie.Need-returns-2 Inv-loop μ-loop
 returns-2 c = search needs
 
-pub holds-spec : {M : Type 1} → statement M
-holds-spec =
+pub is-board-spec : {M : Type 1} → statement M
+is-board-spec =
     tie.close
     (tie.spec
     Inv-loop
     μ-loop
-    entries-requires
     loop-holds
     element-copy-out-if1
-    array-copy-out-if1
+    add-byte
+    byte-requires
+    entry-of-requires
     returns
     add-i
     loop-less
