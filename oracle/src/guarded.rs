@@ -8,6 +8,11 @@ const GUARD: usize = 67;
 pub trait Item: Copy + PartialEq {
     /// What stands in lent memory before a call, and in its guards.
     const PATTERN: Self;
+
+    /// Whether it is the pattern, bit for bit.
+    fn is_pattern(self) -> bool {
+        self == Self::PATTERN
+    }
 }
 
 /// Lent memory with its guards.
@@ -32,6 +37,6 @@ impl<T: Item> Guarded<T> {
     /// Whether a guard changed.
     pub fn strayed(&self) -> bool {
         let (before, after) = (&self.0[..GUARD], &self.0[self.0.len() - GUARD..]);
-        before.iter().chain(after).any(|&item| item != T::PATTERN)
+        before.iter().chain(after).any(|item| !item.is_pattern())
     }
 }

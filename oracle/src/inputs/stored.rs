@@ -11,9 +11,9 @@
 //! | 203 | each lent float afterwards; 85 where it is as it was, and after the last |
 //!
 //! A float is stored as the one byte that it equals, since every input is a whole number: the value
-//! and the byte have the same bits as floats, or nothing is stored. A replay lends floats of 85,
-//! which no input is. One input by place has no records of its own: it has to be the float that
-//! stands in the slice.
+//! and the byte have the same bits as floats, or nothing is stored. A replay lends NaNs, and no
+//! input is one. One input by place has no records of its own: it has to be the float that stands
+//! in the slice.
 
 use super::answer::Answer;
 use super::{Call, InputsCase, document};
@@ -30,7 +30,7 @@ const MOST: usize = 203;
 
 type Record = [u8; 29 + MOST];
 
-/// What a float is before a call.
+/// What stands for a float that is as it was before a call.
 const BEFORE: u8 = 85;
 
 /// Boards of each kind that are taken whatever they are, and those that are looked at.
@@ -110,7 +110,7 @@ fn agreed(case: InputsCase) -> Result<Answer, Difference> {
     if answers.agree() { Ok(answers.decided()) } else { Err(Difference::of(case)) }
 }
 
-/// The byte that an input is, bit for bit, and that is not the one before a call.
+/// The byte that an input is, bit for bit, and that does not stand for a float as it was.
 fn whole(input: f32) -> u8 {
     let byte = input as u8;
     assert_eq!(f32::from(byte).to_bits(), input.to_bits(), "{input} is no byte");

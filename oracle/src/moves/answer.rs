@@ -88,7 +88,7 @@ fn call(case: &MovesCase, given: &[i8], list: &mut [u8], out: &mut [i8]) -> u64 
 
 /// The bytes up to the last that changed, where all were the pattern.
 fn written<T: Item>(lent: &[T], byte: fn(T) -> u8) -> Vec<u8> {
-    let last = lent.iter().rposition(|&item| item != T::PATTERN);
+    let last = lent.iter().rposition(|item| !item.is_pattern());
     lent[..last.map_or(0, |last| last + 1)].iter().map(|&item| byte(item)).collect()
 }
 

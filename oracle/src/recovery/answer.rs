@@ -42,7 +42,7 @@ impl Answer {
         let strayed = [(&mut old, &case.old), (&mut end, &case.end)]
             .into_iter()
             .any(|(given, was)| given.lent() != was || given.strayed());
-        let last = row.lent().iter().rposition(|&step| step != Step::PATTERN);
+        let last = row.lent().iter().rposition(|step| !step.is_pattern());
         Answer {
             packed,
             row: row.lent()[..last.map_or(0, |last| last + 1)].to_vec(),
