@@ -25,7 +25,12 @@ fn main() {
     let mut buffer = [0u8; ROOM];
     let tally = replay(file, &mut card, &mut buffer);
     libc::close(file);
-    stored::tell(path, b"cards", tally);
+    stored::tell(
+        path,
+        b"cards",
+        b"less than a million whole records, with cards of at most 5100 bytes",
+        tally,
+    );
 }
 
 // Replays the records of a file, one after another, each card in the same memory.

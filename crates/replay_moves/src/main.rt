@@ -22,7 +22,12 @@ fn main() {
     let mut list = [0u8; ROOM];
     let tally = replay(file, &mut list);
     libc::close(file);
-    stored::tell(path, b"boards and rolls", tally);
+    stored::tell(
+        path,
+        b"boards and rolls",
+        b"less than a million whole records of 100 bytes",
+        tally,
+    );
 }
 
 // Replays the records of a file, one after another, each in the same list.

@@ -13,14 +13,13 @@ pub struct Tally {
     pub whole: bool,
 }
 
-// Writes what a file's records showed; `kind` says what they are.
-pub fn tell(path: &[u8], kind: &[u8], tally: Tally) {
+// Writes what a file's records showed, `kind` saying what they are; or, where the file was not whole, the shape that it must have.
+pub fn tell(path: &[u8], kind: &[u8], shape: &[u8], tally: Tally) {
     if !tally.whole {
         io::write_all(STDERR_FILENO, path);
-        io::write_all(
-            STDERR_FILENO,
-            b": it must end where a record does, and have less than a million of them\n",
-        );
+        io::write_all(STDERR_FILENO, b": it must have ");
+        io::write_all(STDERR_FILENO, shape);
+        io::write_all(STDERR_FILENO, b"\n");
         return;
     }
     io::write_all(STDOUT_FILENO, path);
@@ -40,6 +39,8 @@ pub fn byte(record: &[u8], at: usize) -> u8 {
     }
     0
 }
+
+// The functions below bound `at`, far above the length of any record, so that what is added to it cannot overflow.
 
 // The number in two bytes from `at` on, low byte first.
 pub fn two(record: &[u8], at: usize) -> u64
