@@ -125,7 +125,7 @@ static void second_turn(const int8_t board[26], int8_t end[26])
 }
 
 /* What a card tells, whole and without its last byte. */
-static void read_card(const uint8_t *card, size_t length)
+static void read_card(const uint8_t *card, uint64_t length)
 {
     int8_t out[26] = {0};
     uint64_t answer, turns = accepted("card, read", munchalep_card_read(card, length));
@@ -143,7 +143,7 @@ static void game(void)
     static uint8_t card[MUNCHALEP_CARD_BYTES];
     uint8_t key[MUNCHALEP_KEY_BYTES];
     int8_t first[26], second[26];
-    size_t length;
+    uint64_t length;
 
     printf("start:");
     print_board(start);

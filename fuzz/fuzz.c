@@ -44,11 +44,11 @@ static void take_bytes(void *to, size_t n)
 }
 
 /* Mostly a small number, at times a huge one. */
-static size_t take_number(void)
+static uint64_t take_number(void)
 {
-    size_t n = take();
+    uint64_t n = take();
 
-    return n < 250 ? n : SIZE_MAX >> (n - 250);
+    return n < 250 ? n : UINT64_MAX >> (n - 250);
 }
 
 /* A board with few checkers, so that many are accepted; or any 26 bytes. */
@@ -149,8 +149,8 @@ int LLVMFuzzerTestOneInput(const uint8_t *data, size_t length)
     unsigned entry;
     int8_t board[26], end[26], seen[26];
     uint8_t key[10], card[MUNCHALEP_START_BYTES + 5 * TURNS];
-    size_t first, second, n;
-    uint64_t answer = 0;
+    uint64_t first, second, answer = 0;
+    size_t n;
     void *lent = NULL;
 
     input.next = data;

@@ -9,7 +9,8 @@
  * Nothing has to hold of a board or a number before a call: every function
  * takes any bytes and any numbers, and answers or refuses. Pointers are not
  * null, each points to as many entries as its parameter says, and what a
- * function writes does not overlap what it reads.
+ * function writes does not overlap what it reads. Every number is a uint64_t, on
+ * 32-bit processors too: that is the size that the proved functions take.
  *
  * Every function answers one uint64_t. Its low byte is the refusal number, 0
  * where nothing is refused; the 56 bits above it are a value, which each
@@ -26,7 +27,6 @@
 #ifndef MUNCHALEP_H
 #define MUNCHALEP_H
 
-#include <stddef.h>
 #include <stdint.h>
 
 #ifdef __cplusplus
@@ -122,7 +122,7 @@ uint64_t munchalep_switch(const int8_t board[26], int8_t out[26]);
  * played is not looked at, and finished boards are taken. Refuses 1, 2, 3, 4,
  * 7, 8, 9. The value is 0.
  */
-uint64_t munchalep_step(const int8_t board[26], size_t from, size_t die, int8_t out[26]);
+uint64_t munchalep_step(const int8_t board[26], uint64_t from, uint64_t die, int8_t out[26]);
 
 /*
  * The result, or where the game goes on its phase: the value is one of enum
@@ -143,17 +143,17 @@ uint64_t munchalep_result(const int8_t board[26]);
  * MUNCHALEP_MOST_ENDS none is refused by 10, and the ends are not counted
  * first, which takes less time.
  */
-uint64_t munchalep_list(const int8_t board[26], size_t die1, size_t die2, uint8_t *list,
-                        size_t length);
+uint64_t munchalep_list(const int8_t board[26], uint64_t die1, uint64_t die2, uint8_t *list,
+                        uint64_t length);
 
 /* The number of ends of a roll, as the value. Refuses 1, 2, 3, 4, 6, 5, 7. */
-uint64_t munchalep_count(const int8_t board[26], size_t die1, size_t die2);
+uint64_t munchalep_count(const int8_t board[26], uint64_t die1, uint64_t die2);
 
 /*
  * The end with a number, counted from 0 in the order of munchalep_list(), to
  * `out`, sides switched. Refuses 1, 2, 3, 4, 6, 5, 7, 11. The value is 0.
  */
-uint64_t munchalep_end(const int8_t board[26], size_t die1, size_t die2, size_t number,
+uint64_t munchalep_end(const int8_t board[26], uint64_t die1, uint64_t die2, uint64_t number,
                        int8_t out[26]);
 
 /* One step of one checker. `from` is 25 on the bar, and `to` is 0 off the board. */
@@ -176,8 +176,8 @@ struct munchalep_step {
  * `places` is the number of steps that the row lent has room for. A row with
  * fewer places than steps is refused by 27; with MUNCHALEP_MOST_STEPS none is.
  */
-uint64_t munchalep_recover(const int8_t old[26], const int8_t end[26], size_t die1, size_t die2,
-                           struct munchalep_step *row, size_t places);
+uint64_t munchalep_recover(const int8_t old[26], const int8_t end[26], uint64_t die1,
+                           uint64_t die2, struct munchalep_step *row, uint64_t places);
 
 /*
  * The board's key, to `key`: the ten bytes that GNU Backgammon's Position ID
@@ -207,15 +207,15 @@ uint64_t munchalep_board_of_key(const uint8_t key[10], int8_t out[26]);
  * 1, 0, 0, 0 for one checker of the side, 0, 1, 0, 0 for two, and from three on
  * 0, 0, 1 and the count less three; all 0 where it has none.
  */
-uint64_t munchalep_contact_inputs(const int8_t board[26], float *inputs, size_t length);
-uint64_t munchalep_race_inputs(const int8_t board[26], float *inputs, size_t length);
+uint64_t munchalep_contact_inputs(const int8_t board[26], float *inputs, uint64_t length);
+uint64_t munchalep_race_inputs(const int8_t board[26], float *inputs, uint64_t length);
 
 /*
  * The one input that has a place in them, counted from 0, to `out`. Refuses 1,
  * 2, 3, 4, 14. The value is 0.
  */
-uint64_t munchalep_contact_input(const int8_t board[26], size_t place, float *out);
-uint64_t munchalep_race_input(const int8_t board[26], size_t place, float *out);
+uint64_t munchalep_contact_input(const int8_t board[26], uint64_t place, float *out);
+uint64_t munchalep_race_input(const int8_t board[26], uint64_t place, float *out);
 
 /*
  * A game card is a start record, which holds the key of the start board, and a
@@ -233,7 +233,7 @@ uint64_t munchalep_race_input(const int8_t board[26], size_t place, float *out);
  * to its first 12 bytes. The value is 12, the card's length. Refuses 1, 2, 3, 4,
  * 6, 5, 19.
  */
-uint64_t munchalep_card_begin(const int8_t board[26], uint8_t *buffer, size_t room);
+uint64_t munchalep_card_begin(const int8_t board[26], uint8_t *buffer, uint64_t room);
 
 /*
  * Adds a turn to the card in the first `length` bytes of a buffer of `room`
@@ -244,8 +244,8 @@ uint64_t munchalep_card_begin(const int8_t board[26], uint8_t *buffer, size_t ro
  * munchalep_card_read() refuses of the card, with its value, then 22, 25, 7, 12,
  * 19 with the value 0.
  */
-uint64_t munchalep_card_add(uint8_t *buffer, size_t room, size_t length, size_t die1, size_t die2,
-                            const int8_t end[26]);
+uint64_t munchalep_card_add(uint8_t *buffer, uint64_t room, uint64_t length, uint64_t die1,
+                            uint64_t die2, const int8_t end[26]);
 
 /*
  * Reads the whole card in `length` bytes. The value is the number of its turns.
@@ -253,7 +253,7 @@ uint64_t munchalep_card_add(uint8_t *buffer, size_t room, size_t length, size_t 
  * 11. The value of these is where the refused record begins, its byte offset in
  * the card: 0 for the start record.
  */
-uint64_t munchalep_card_read(const uint8_t *card, size_t length);
+uint64_t munchalep_card_read(const uint8_t *card, uint64_t length);
 
 /*
  * The position of a card with a number, to `out`: 0 is the start board, k the
@@ -261,7 +261,7 @@ uint64_t munchalep_card_read(const uint8_t *card, size_t length);
  * munchalep_card_read() refuses, with its value, then 36 for a number above the
  * number of turns. Else the value is 0.
  */
-uint64_t munchalep_card_position(const uint8_t *card, size_t length, size_t number,
+uint64_t munchalep_card_position(const uint8_t *card, uint64_t length, uint64_t number,
                                  int8_t out[26]);
 
 #ifdef __cplusplus

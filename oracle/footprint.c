@@ -55,7 +55,7 @@ static ucontext_t caller, callee;
 static struct {
     enum entry entry;
     int8_t board[26], out[26];
-    size_t die1, die2;
+    uint64_t die1, die2;
     int8_t end[26], unswitched[26]; /* the roll's last end */
     struct munchalep_step row[4];
     uint8_t key[10];

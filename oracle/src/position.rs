@@ -76,7 +76,7 @@ impl PositionCase {
         Answer::of_call(&self.board, |board, out| match self.call {
             Call::Check => raw::munchalep_check(board),
             Call::Switch => raw::munchalep_switch(board, out),
-            Call::Step { from, die } => raw::munchalep_step(board, from, die, out),
+            Call::Step { from, die } => raw::munchalep_step(board, from as u64, die as u64, out),
             Call::Result => raw::munchalep_result(board),
         })
     }

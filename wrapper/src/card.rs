@@ -49,6 +49,7 @@ pub fn card_add(
     die2: usize,
     end: &Board,
 ) -> Result<usize, Refusal> {
+    let (length, die1, die2) = (length as u64, die1 as u64, die2 as u64);
     value_of(raw::munchalep_card_add(buffer, length, die1, die2, end)).map(|length| length as usize)
 }
 
@@ -62,7 +63,7 @@ pub fn card_read(card: &[u8]) -> Result<usize, Refusal> {
 /// side sees it that moves next. Refuses what [`card_read`] refuses, then 36.
 pub fn card_position(card: &[u8], number: usize) -> Result<Board, Refusal> {
     let mut out = [0; 26];
-    value_of(raw::munchalep_card_position(card, number, &mut out)).map(|_| out)
+    value_of(raw::munchalep_card_position(card, number as u64, &mut out)).map(|_| out)
 }
 
 #[cfg(test)]

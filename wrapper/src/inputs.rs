@@ -24,13 +24,15 @@ pub fn race_inputs(board: &Board) -> Result<[f32; RACE_INPUTS], Refusal> {
 /// The one input of the contact net that has a place, counted from 0. Refuses 1, 2, 3, 4, 14.
 pub fn contact_input(board: &Board, place: usize) -> Result<f32, Refusal> {
     let mut input = 0.0;
-    value_of(raw::munchalep_contact_input(board, place, &mut input)).map(|_| input)
+    let answer = raw::munchalep_contact_input(board, place as u64, &mut input);
+    value_of(answer).map(|_| input)
 }
 
 /// The one input of the race net that has a place, counted from 0. Refuses 1, 2, 3, 4, 14.
 pub fn race_input(board: &Board, place: usize) -> Result<f32, Refusal> {
     let mut input = 0.0;
-    value_of(raw::munchalep_race_input(board, place, &mut input)).map(|_| input)
+    let answer = raw::munchalep_race_input(board, place as u64, &mut input);
+    value_of(answer).map(|_| input)
 }
 
 #[cfg(test)]

@@ -29,19 +29,21 @@ pub const MOST_ENDS: usize = 17_550;
 /// # Ok::<(), munchalep::Refusal>(())
 /// ```
 pub fn list(board: &Board, die1: usize, die2: usize, list: &mut [u8]) -> Result<usize, Refusal> {
-    value_of(raw::munchalep_list(board, die1, die2, list)).map(|number| number as usize)
+    value_of(raw::munchalep_list(board, die1 as u64, die2 as u64, list))
+        .map(|number| number as usize)
 }
 
 /// The number of ends of a roll. Refuses 1, 2, 3, 4, 6, 5, 7.
 pub fn count(board: &Board, die1: usize, die2: usize) -> Result<usize, Refusal> {
-    value_of(raw::munchalep_count(board, die1, die2)).map(|number| number as usize)
+    value_of(raw::munchalep_count(board, die1 as u64, die2 as u64)).map(|number| number as usize)
 }
 
 /// The end with a number, counted from 0 in the order of [`list`], sides switched. Refuses 1, 2, 3,
 /// 4, 6, 5, 7, 11.
 pub fn end(board: &Board, die1: usize, die2: usize, number: usize) -> Result<Board, Refusal> {
     let mut out = [0; 26];
-    value_of(raw::munchalep_end(board, die1, die2, number, &mut out)).map(|_| out)
+    let answer = raw::munchalep_end(board, die1 as u64, die2 as u64, number as u64, &mut out);
+    value_of(answer).map(|_| out)
 }
 
 #[cfg(test)]

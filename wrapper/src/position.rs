@@ -59,7 +59,8 @@ pub fn switch(board: &Board) -> Result<Board, Refusal> {
 /// taken. Refuses 1, 2, 3, 4, 7, 8, 9.
 pub fn step(board: &Board, from: usize, die: usize) -> Result<Board, Refusal> {
     let mut out = [0; 26];
-    value_of(raw::munchalep_step(board, from, die, &mut out)).map(|_| out)
+    let answer = raw::munchalep_step(board, from as u64, die as u64, &mut out);
+    value_of(answer).map(|_| out)
 }
 
 /// The result, or the phase of a game that goes on. Refuses 1, 2, 3, 4, 6.

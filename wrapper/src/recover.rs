@@ -44,7 +44,8 @@ pub fn recover(
     die2: usize,
     row: &mut [Step],
 ) -> Result<usize, Refusal> {
-    value_of(raw::munchalep_recover(old, end, die1, die2, row)).map(|number| number as usize)
+    let answer = raw::munchalep_recover(old, end, die1 as u64, die2 as u64, row);
+    value_of(answer).map(|number| number as usize)
 }
 
 #[cfg(test)]

@@ -68,10 +68,10 @@ fn call(case: &CardCase, board: &[i8], card: &[u8], buffer: &mut [u8], out: &mut
     match case.call {
         Call::Begin { .. } => raw::munchalep_card_begin(board, buffer),
         Call::Add { length, dice: (die1, die2), .. } => {
-            raw::munchalep_card_add(buffer, length, die1, die2, board)
+            raw::munchalep_card_add(buffer, length as u64, die1 as u64, die2 as u64, board)
         }
         Call::Read => raw::munchalep_card_read(card),
-        Call::Position { number } => raw::munchalep_card_position(card, number, out),
+        Call::Position { number } => raw::munchalep_card_position(card, number as u64, out),
     }
 }
 

@@ -81,9 +81,11 @@ fn call(case: &InputsCase, given: &[i8], floats: &mut [f32]) -> u64 {
         (Net::Contact, Call::Fill { .. }) => raw::munchalep_contact_inputs(given, floats),
         (Net::Race, Call::Fill { .. }) => raw::munchalep_race_inputs(given, floats),
         (Net::Contact, Call::One { place }) => {
-            raw::munchalep_contact_input(given, place, &mut floats[0])
+            raw::munchalep_contact_input(given, place as u64, &mut floats[0])
         }
-        (Net::Race, Call::One { place }) => raw::munchalep_race_input(given, place, &mut floats[0]),
+        (Net::Race, Call::One { place }) => {
+            raw::munchalep_race_input(given, place as u64, &mut floats[0])
+        }
     }
 }
 

@@ -76,13 +76,13 @@ impl Answer {
 
 /// Makes a call: of the board `given`, with the list or the board that it is lent.
 fn call(case: &MovesCase, given: &[i8], list: &mut [u8], out: &mut [i8]) -> u64 {
-    let (die1, die2) = case.dice;
+    let (die1, die2) = (case.dice.0 as u64, case.dice.1 as u64);
     let given = given.try_into().expect("a board was put there");
     let out = out.try_into().expect("a board was put there");
     match case.call {
         Call::Count => raw::munchalep_count(given, die1, die2),
         Call::List { .. } => raw::munchalep_list(given, die1, die2, list),
-        Call::End { number } => raw::munchalep_end(given, die1, die2, number, out),
+        Call::End { number } => raw::munchalep_end(given, die1, die2, number as u64, out),
     }
 }
 

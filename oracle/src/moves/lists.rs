@@ -73,7 +73,7 @@ impl Lists {
         };
         let need = self.judged.len();
         let agree = judges_agree
-            && raw::munchalep_count(board, dice.0, dice.1) == packed
+            && raw::munchalep_count(board, dice.0 as u64, dice.1 as u64) == packed
             && self.listed(board, dice, ROOM, packed)
             && self.listed(board, dice, need, packed);
         if !agree {
@@ -90,7 +90,7 @@ impl Lists {
     /// guards tell; a list's limits are tried with a look at every byte.
     fn listed(&mut self, board: &Board, dice: (usize, usize), length: usize, packed: u64) -> bool {
         let list = &mut self.lent[GUARD..GUARD + length];
-        let answer = raw::munchalep_list(board, dice.0, dice.1, list);
+        let answer = raw::munchalep_list(board, dice.0 as u64, dice.1 as u64, list);
         // The compiler may take for granted that only the list changed; it is to look.
         let (before, list) = black_box(&mut self.lent).split_at_mut(GUARD);
         let (listed, after) = list.split_at_mut(self.judged.len());

@@ -55,7 +55,7 @@ impl Answer {
 fn call(case: &RecoveryCase, old: &[i8], end: &[i8], row: &mut [Step]) -> u64 {
     let [old, end]: [&Board; 2] =
         [old, end].map(|given| given.try_into().expect("a board was put there"));
-    raw::munchalep_recover(old, end, case.dice.0, case.dice.1, row)
+    raw::munchalep_recover(old, end, case.dice.0 as u64, case.dice.1 as u64, row)
 }
 
 impl fmt::Display for Answer {
