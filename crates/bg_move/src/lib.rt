@@ -1,4 +1,6 @@
 // From bg_move.rs: the steps behind an end of a roll.
+#![tactic(auto)]
+
 mod double;
 mod mixed;
 
@@ -13,14 +15,14 @@ use end_number::Numbered;
 
 // One step of one checker: 25 is the bar, 0 is off.
 #[repr(C)]
-#[derive(Drop)]
+#[derive(Clone, Copy, Drop)]
 pub struct Step {
     pub from: u8,
     pub to: u8,
 }
 
 // Up to four steps in their order; zeros in the places after them.
-#[derive(Drop)]
+#[derive(Clone, Copy, Drop)]
 pub struct Steps {
     pub count: u8,
     pub from: [u8; 4],
@@ -28,7 +30,7 @@ pub struct Steps {
 }
 
 // The steps, or the number of the refusal and none.
-#[derive(Drop)]
+#[derive(Clone, Copy, Drop)]
 pub struct Recovered {
     pub refused: u8,
     pub steps: Steps,

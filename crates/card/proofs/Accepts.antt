@@ -113,9 +113,9 @@ record-bytes {n} {b} a t roll legal (suc (suc (suc (suc zero)))) =
 record-bytes a t roll legal (suc (suc (suc (suc (suc i))))) = omega arith
 
 records-bytes : {n : ℕ} {b : List ℤ} → Accepted n b → (ts : List Turn) → Played b ts → Bytes (records_of b ts)
-records-bytes a [] p i = omega arith
+records-bytes {n} {b} a [] p i = omega arith
 records-bytes {n} {b} a (t ∷ ts) p i =
-    bytes-append (record_of b t) (records_of (next t) ts) (record-bytes a t p.1 p.2) (records-bytes (next-accepted a t p.1 p.2) ts p.3) i
+    bytes-append (record_of b t) (records_of (next t) ts) (record-bytes a t p.1 p.2) (records-bytes {n = n} {b = next t} (next-accepted a t p.1 p.2) ts p.3) i
 
 start-bytes : (b : List ℤ) → Bytes (start_record b)
 unfolding key_of

@@ -1,5 +1,5 @@
 -- Different games have different cards: the card tells the start, the number of turns, each roll and each end. A game has one card, since
--- `cardOf` is a function of it. Stated over the number n of checkers a side, at most fifteen. Assumes nothing.
+-- `card_of` is a function of it. Stated over the number n of checkers a side, at most fifteen. Assumes nothing.
 use mathlib.Core.Path.{◌≡◌, refl, sym, ap, ap₂, subst, ◌∙◌}
 use mathlib.Core.List.{List, [], ◌∷◌}
 use mathlib.Core.Logic.{◌≢◌}
@@ -35,7 +35,7 @@ different-turns {n} {b} a (t ∷ ts) (u ∷ us) p q e =
     let named = ap₂ (λ (c : List (List ℤ)) (i : ℕ). get_or c i []) (ap₂ (ends_of b) l s) k in
     let same : t ≡ u = same_turn t u l s (sym (number-names a t p.1 p.2) ∙ named ∙ number-names a u q.1 q.2) in
     let rest : records_of (next t) ts ≡ records_of (next t) us = ap (drop 5) e ∙ ap (λ (v : Turn). records_of (next v) us) (sym same) in
-    ap₂ ◌∷◌ same (different-turns (next-accepted a t p.1 p.2) ts us p.3 (subst (λ (v : Turn). Played (next v) us) (sym same) q.3) rest)
+    ap₂ ◌∷◌ same (different-turns {n = n} {b = next t} (next-accepted a t p.1 p.2) ts us p.3 (subst (λ (v : Turn). Played (next v) us) (sym same) q.3) rest)
 
 module _ {n m : ℕ} (few : n ≤ 15) {s s' : List ℤ} {ts ts' : List Turn} (g : Game n m s ts) (h : Game n m s' ts') where
   -- two games of one card are one game

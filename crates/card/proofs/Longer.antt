@@ -27,7 +27,7 @@ pub record CanAdd (b : List ℤ) (t : Turn) : Type 0 where
 
 pub last-accepted : {n : ℕ} {b : List ℤ} → Accepted n b → (ts : List Turn) → Played b ts → Accepted n (last_board b ts)
 last-accepted a [] p = a
-last-accepted a (t ∷ ts) p = last-accepted (next-accepted a t p.1 p.2) ts p.3
+last-accepted {n = n} {b = b} a (t ∷ ts) p = last-accepted {n = n} {b = next t} (next-accepted a t p.1 p.2) ts p.3
 
 pub played-first : (b : List ℤ) (ts us : List Turn) → Played b (ts ++ us) → Played b ts
 played-first b [] us p = tt

@@ -7,7 +7,7 @@ use native.Mathlib.Omega.{arith}
 use lib.IntN.{ℤ}
 use lib.ListN.{length, get_or, drop, length-drop}
 use borrow.Author.Tests.{lt-ltb, le-ltb}
-use Rattle.ints.specs.Answer.{value, refused}
+use Rattle.ints.specs.Answer.{value}
 use Rattle.position.specs.Board.{Accepted}
 use Rattle.card.specs.Game.{Turn, Played, Game, next, positions}
 use Rattle.card.specs.Card.{record_of, records_of, card_of}

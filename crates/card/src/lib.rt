@@ -1,4 +1,6 @@
 // The game card: a start record, and a record for each turn. A card is read whole before anything is answered of it.
+#![tactic(auto)]
+
 pub mod reader;
 pub mod writer;
 

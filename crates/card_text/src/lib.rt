@@ -1,4 +1,6 @@
 // The text of a card, as the card program prints it.
+#![tactic(auto)]
+
 pub mod lines;
 pub mod put;
 

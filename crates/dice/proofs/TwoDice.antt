@@ -1,4 +1,4 @@
--- The roll of two dice: which facts make each case of `diceOf`, what each case tells of the dice, and that their order is no matter.
+-- The roll of two dice: which facts make each case of `dice_of`, what each case tells of the dice, and that their order is no matter.
 use mathlib.Core.Path.{◌≡◌, refl, sym, ◌∙◌, subst}
 use mathlib.Core.Bool.{Bool, true, false, cond, ◌&&◌, and_comm}
 use Prim.Native.Nat.{ℕ, ◌≤◌, ◌<◌, min, max}

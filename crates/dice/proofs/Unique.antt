@@ -10,7 +10,7 @@ use Rattle.dice.specs.declared.DiceByte.TheVariants.{Byte, Refused}
 use Rattle.dice.specs.Rolls.{rolls, pairs}
 use Rattle.dice.specs.Dice.{is_die, dice_of, dice_byte_of, dice_of_byte, byte_answer}
 
--- `byteAnswer` tells the cases and their values apart
+-- `byte_answer` tells the cases and their values apart
 cases-apart : (r s : DiceByte) → byte_answer r ≡ byte_answer s → r ≡ s
 unfolding byte_answer
 cases-apart (Byte b) (Byte c) e = cc

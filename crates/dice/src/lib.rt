@@ -1,4 +1,6 @@
 // From dice.rs: a roll of two dice, the dice byte, the 21 rolls and the 441 pairs of rolls.
+#![tactic(auto)]
+
 ghost use Rattle.std.specs.Prelude.{◌≡◌, ◌≤◌, min, max, get_or};
 ghost use Rattle.dice.specs.Rolls.{byte_of, rolls, pairs};
 ghost use Rattle.dice.specs.Dice.{is_die, dice_of, dice_byte_of, is_byte_in, dice_of_byte, byte_answer};

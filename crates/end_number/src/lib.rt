@@ -1,5 +1,7 @@
 // The number of an end: its place in the list of a roll's ends. Found without a list of them: a window of some ends, in fixed memory,
 // moves over the generator's list, and each end that it shows is compared.
+#![tactic(auto)]
+
 ghost use Rattle.std.specs.Prelude.{◌≡◌, ◌≤◌, ◌<◌, min, length};
 ghost use Rattle.position.specs.Board.{checkers};
 ghost use Rattle.end_number.specs.Number.{number_told, number_answer};

@@ -1,5 +1,7 @@
 // From inputs.rs: the inputs of the two nets, each a small whole number as f32, filled into a lent slice or asked one by one by place.
 // A lent slice is told by the bits of its f32s, so that a refusal is promised to leave every byte, those of a NaN too.
+#![tactic(auto)]
+
 ghost use Rattle.std.specs.Prelude.{◌≡◌, not, map, ◌+◌, ◌-◌, ◌*◌, ◌≤◌, ◌<◌, T, length, get_or};
 ghost use Rattle.std.specs.Float.{binary32};
 ghost use Rattle.std.specs.Float.Ieee.{is_nan, to_bits};

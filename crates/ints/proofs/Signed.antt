@@ -1,4 +1,4 @@
--- Signed numbers for `omega`: z is `posPart z` less `negPart z`, two whole numbers of which one is 0.
+-- Signed numbers for `omega`: z is `pos_part z` less `neg_part z`, two whole numbers of which one is 0.
 -- Each law turns a fact of signed numbers, as a test, a sum or a range gives it, into one on those parts.
 --     apart              one of the two is 0, as an equation with a difference, which `omega` reads
 --     lt_yes, lt_no      a test that held, or failed

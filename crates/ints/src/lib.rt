@@ -1,4 +1,6 @@
 // Small numbers: leaf functions over signed bytes and over the bits of lent bytes, that every crate above calls.
+#![tactic(auto)]
+
 ghost use Rattle.std.specs.Prelude.{◌≡◌, true, false, ◌*◌, ◌<◌, length, get_or, set};
 ghost use Rattle.ints.specs.Signed.{pos_part, neg_part};
 ghost use Rattle.ints.specs.Twos.{twos, from_twos};

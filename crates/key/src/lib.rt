@@ -1,4 +1,6 @@
 // From conversion.rs: the ten bytes of the Position ID key, written from a board and read back.
+#![tactic(auto)]
+
 ghost use Rattle.std.specs.Prelude.{◌≡◌, true, ◌&&◌, ℕ, ◌+◌, min, ◌≤◌, ◌<◌, ltb, pos, ◌-ℤ◌, get_or, drop, replicate};
 ghost use Rattle.ints.specs.Bits.{Bytes, bits_of, merged, some};
 ghost use Rattle.ints.specs.Sums.{values};

@@ -1,6 +1,8 @@
 // From `all_positions_after_moving` of position.rs: the ends of a roll, listed, counted, or asked by number.
 // One generator with a window serves all three: it passes the ends in document 01's order, counts them, and writes those whose
 // numbers fall in the lent memory.
+#![tactic(auto)]
+
 pub mod double_moves;
 pub mod mixed_moves;
 pub mod points;

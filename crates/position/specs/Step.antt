@@ -19,7 +19,7 @@ unfoldable pub off_from : ℕ → ℕ → ℕ
 off_from p d = cond (eqb p d) 7 (p + 1)
 
 -- "Steps and ends": x has a checker on p; p is 25 exactly if x's bar is not empty; the checker lands where o has at most one, or
--- is borne off with no x from `offFrom` on
+-- is borne off with no x from `off_from` on
 unfoldable pub can_step : List ℤ → ℕ → ℕ → Bool
 can_step b p d =
     ltb 0 (xs b p)

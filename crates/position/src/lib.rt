@@ -1,5 +1,7 @@
 // From position.rs: the 26 entries of a board, their refusals, the side switch and a single step.
 // A board is seen from x, the side to move: positive entries are x's checkers, negative ones o's.
+#![tactic(auto)]
+
 pub mod phase;
 
 ghost use Rattle.std.specs.Prelude.{◌≡◌, ◌≤◌};

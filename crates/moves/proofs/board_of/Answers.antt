@@ -1,0 +1,18 @@
+-- The loop's invariant: the entries passed are those that the bytes hold.
+use mathlib.Core.Path.{◌≡◌, sym, ◌∙◌}
+use mathlib.Core.List.{map}
+use native.Mathlib.Omega.{arith}
+use lib.IntN.{pos}
+use lib.ListN.{length, length-map}
+use lib.Seq.{ext_get_or}
+use Rattle.ints.specs.Twos.{from_twos}
+use Rattle.moves.proofs.Entries.{get_or-from}
+use Rattle.moves.proofs.board_of.Goals as goal
+
+pub returns : goal.returns
+returns c =
+    let l = c.args.bytes in
+    let v = c.loop-i.invariant in
+    let size : length l ≡ 26 = c.well_formed.0.1.0.1 in
+    ext_get_or (pos 0) c.loop-i.b (map from_twos l) (v.1 ∙ sym (length-map l from_twos ∙ size))
+    (λ k h. v.2 k (omega (arith, v.1)) ∙ sym (get_or-from l k (omega (arith, v.1, size))))

@@ -1,0 +1,32 @@
+-- It takes the digit of p away where the last checker leaves, and sets that of the point reached.
+use Prim.Native.Nat.{◌^◌, ◌-◌}
+use native.Mathlib.Omega.{arith}
+use borrow.Author.Tests.{lt-ltb, le-ltb}
+use lib.Bits.{or_lt}
+use lib.Pow.{pow-lt}
+use mir.Syntax.{w8}
+use Rattle.ints.proofs.Signed.{held-is}
+use Rattle.ints.proofs.Digits.{shl_one}
+use Rattle.position.specs.Board.{entry}
+use Rattle.moves.specs.Points.{after_mask}
+use Rattle.moves.proofs.points.after.Goals as goal
+
+pub returns-then-die-p : goal.returns-then-die-p
+unfolding after_mask
+returns-then-die-p c =
+    let a = c.args in
+    let q = a.p - a.die in
+    let z = held-is w8 (entry a.b.now a.p) c.without_last-arg-1.given in
+    let s = shl_one 32 q (omega arith) in
+    let e = c.without_last-rest.ensures in (
+      rw (s, e.0, z, lt-ltb a.die a.p c.if-die-p.true),
+      rw s (or_lt 25 c.without_last-rest.result (2 ^ q) e.1 (pow-lt {j = 25} (omega arith))),
+    )
+
+pub returns : goal.returns
+unfolding after_mask
+returns c =
+    let a = c.args in
+    let z = held-is w8 (entry a.b.now a.p) c.without_last-arg-1.given in
+    let e = c.without_last-rest.ensures in
+    (rw (e.0, z, le-ltb a.die a.p (omega arith)), e.1)

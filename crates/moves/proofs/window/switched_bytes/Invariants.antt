@@ -1,0 +1,10 @@
+use Prim.Native.Nat.{◌-◌}
+use Rattle.ints.proofs.Sums.{Filled}
+use Rattle.moves.proofs.Images.{byte_at}
+use Rattle.moves.proofs.window.switched_bytes.Given as goal
+
+abbrev pub invariant-loop-i : goal.invariant-loop-i
+invariant-loop-i l = Filled (byte_at l.b) 0 26 l.s l.i
+
+abbrev pub decreases-loop-i : goal.decreases-loop-i
+decreases-loop-i l = 26 - l.i

@@ -1,0 +1,15 @@
+use mathlib.Core.List.{List}
+use Prim.Native.Nat.{ℕ}
+use Rattle.ints.specs.Bits.{bit}
+use Rattle.ints.specs.Masks.{those}
+use Rattle.moves.proofs.PassingSteps.{Left}
+use Rattle.moves.proofs.window.up.Given as goal
+
+abbrev pub points : ℕ → List ℕ
+points = λ x. those 25 0 (bit x)
+
+abbrev pub invariant-loop-rest : goal.invariant-loop-rest
+invariant-loop-rest l = Left points l.b l.die l.m l.initial.out l.from l.start l.out l.n l.rest
+
+abbrev pub decreases-loop-rest : goal.decreases-loop-rest
+decreases-loop-rest l = l.rest

@@ -1,0 +1,11 @@
+use mathlib.Core.Path.{◌≡◌}
+use Prim.Native.Nat.{◌-◌, ◌≤◌}
+use Rattle.position.specs.Board.{os}
+use Rattle.position.specs.Phase.{lowest}
+use Rattle.position.proofs.phase.lowest_o.Given as goal
+
+abbrev pub invariant-loop-i : goal.invariant-loop-i
+invariant-loop-i l = (l.i ≤ 26) × (lowest (os l.b) 0 26 ≡ lowest (os l.b) l.i (26 - l.i))
+
+abbrev pub decreases-loop-i : goal.decreases-loop-i
+decreases-loop-i l = 26 - l.i
