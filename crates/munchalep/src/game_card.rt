@@ -10,16 +10,14 @@ ghost use Rattle.munchalep.specs.LentCard.{PutPosition};
 use card::{CardAnswer, PositionAnswer};
 
 // Begins a card in the buffer, from a board.
-#[unsafe(no_mangle)]
-pub extern "C" fn munchalep_card_begin(board: &[i8; 26], buffer: &mut [u8]) -> u64
+pub fn munchalep_card_begin(board: &[i8; 26], buffer: &mut [u8]) -> u64
     ensures { (result ≡ packed (begin_answer checkers board.now (length buffer.old))) × (buffer.new ≡ begun_in checkers board.now buffer.old) }
 {
     card_number(card::begin(*board, buffer))
 }
 
 // Adds a turn to the card in the first `length` bytes of the buffer. The end is given with sides switched.
-#[unsafe(no_mangle)]
-pub extern "C" fn munchalep_card_add(
+pub fn munchalep_card_add(
     buffer: &mut [u8],
     length: usize,
     die1: usize,
@@ -32,16 +30,14 @@ pub extern "C" fn munchalep_card_add(
 }
 
 // Reads a card: the number of its turns.
-#[unsafe(no_mangle)]
-pub extern "C" fn munchalep_card_read(card: &[u8]) -> u64
+pub fn munchalep_card_read(card: &[u8]) -> u64
     ensures { result ≡ packed (read_answer checkers turns_most card.now) }
 {
     card_number(card::read(card))
 }
 
 // The position of a card with a number, 0 the start.
-#[unsafe(no_mangle)]
-pub extern "C" fn munchalep_card_position(card: &[u8], number: usize, out: &mut [i8; 26]) -> u64
+pub fn munchalep_card_position(card: &[u8], number: usize, out: &mut [i8; 26]) -> u64
     ensures { PutPosition (position_answer checkers turns_most card.now number) out.old result out.new }
 {
     put_position(card::position(card, number), out)

@@ -1,6 +1,8 @@
-// The C interface: thin functions over the proved crates, declared for C in include/munchalep.h.
+// What the C interface answers: thin functions over the proved crates, which munchalep_c exports to C.
 // Every function answers one number: the refusal's in the low byte, 0 for none, and 256 times the value above it. A board, a
 // key or an input that is answered goes to an out parameter, which a refusal leaves as it was.
+#![tactic(auto)]
+
 pub mod game_card;
 pub mod recover;
 
@@ -20,37 +22,28 @@ use position::BoardAnswer;
 use position::phase::GamePhase;
 
 // The refusal of a board, 1 to 4, or 0.
-#[unsafe(no_mangle)]
-pub extern "C" fn munchalep_check(board: &[i8; 26]) -> u64
+pub fn munchalep_check(board: &[i8; 26]) -> u64
     ensures { result ≡ refusal_of checkers board.now }
 {
     position::refusal(*board) as u64
 }
 
 // The board seen from the other side.
-#[unsafe(no_mangle)]
-pub extern "C" fn munchalep_switch(board: &[i8; 26], out: &mut [i8; 26]) -> u64
+pub fn munchalep_switch(board: &[i8; 26], out: &mut [i8; 26]) -> u64
     ensures { Put (switch_answer checkers board.now) out.old result out.new }
 {
     put(position::switch(*board), out)
 }
 
 // The board, unswitched, after one checker moves from a point by a die.
-#[unsafe(no_mangle)]
-pub extern "C" fn munchalep_step(
-    board: &[i8; 26],
-    from: usize,
-    die: usize,
-    out: &mut [i8; 26],
-) -> u64
+pub fn munchalep_step(board: &[i8; 26], from: usize, die: usize, out: &mut [i8; 26]) -> u64
     ensures { Put (step_answer checkers board.now from die) out.old result out.new }
 {
     put(position::try_move_single_checker(*board, from, die), out)
 }
 
 // The key of the board.
-#[unsafe(no_mangle)]
-pub extern "C" fn munchalep_key(board: &[i8; 26], key: &mut [u8; 10]) -> u64
+pub fn munchalep_key(board: &[i8; 26], key: &mut [u8; 10]) -> u64
     ensures { PutKey (key_answer checkers board.now) key.old result key.new }
 {
     let answer = key::encode(*board);
@@ -64,40 +57,35 @@ pub extern "C" fn munchalep_key(board: &[i8; 26], key: &mut [u8; 10]) -> u64
 }
 
 // The board of the key.
-#[unsafe(no_mangle)]
-pub extern "C" fn munchalep_board_of_key(key: &[u8; 10], out: &mut [i8; 26]) -> u64
+pub fn munchalep_board_of_key(key: &[u8; 10], out: &mut [i8; 26]) -> u64
     ensures { Put (board_of_key_answer checkers key.now) out.old result out.new }
 {
     put(key::decode(*key), out)
 }
 
 // The number of result and phase, 0 to 7, as the value.
-#[unsafe(no_mangle)]
-pub extern "C" fn munchalep_result(board: &[i8; 26]) -> u64
+pub fn munchalep_result(board: &[i8; 26]) -> u64
     ensures { result ≡ packed (phase_answer checkers board.now) }
 {
     number(position::phase::game_phase(*board))
 }
 
 // Lists the ends of a roll, 26 bytes an end, and answers their number; a list that is too short for them stays as it was.
-#[unsafe(no_mangle)]
-pub extern "C" fn munchalep_list(board: &[i8; 26], die1: usize, die2: usize, list: &mut [u8]) -> u64
+pub fn munchalep_list(board: &[i8; 26], die1: usize, die2: usize, list: &mut [u8]) -> u64
     ensures { (result ≡ packed (list_answer checkers board.now die1 die2 (length list.old))) × (list.new ≡ listed_in checkers board.now die1 die2 list.old) }
 {
     listed_number(moves::list(*board, die1, die2, list))
 }
 
 // The number of ends of a roll.
-#[unsafe(no_mangle)]
-pub extern "C" fn munchalep_count(board: &[i8; 26], die1: usize, die2: usize) -> u64
+pub fn munchalep_count(board: &[i8; 26], die1: usize, die2: usize) -> u64
     ensures { result ≡ packed (count_answer checkers board.now die1 die2) }
 {
     counted_number(moves::count(*board, die1, die2))
 }
 
 // The end of a roll with a number, counted from 0, sides switched.
-#[unsafe(no_mangle)]
-pub extern "C" fn munchalep_end(
+pub fn munchalep_end(
     board: &[i8; 26],
     die1: usize,
     die2: usize,
@@ -111,32 +99,28 @@ pub extern "C" fn munchalep_end(
 
 // Fills exactly 202 floats with the contact net's inputs; any other number of them stays as it was. Lent floats are told by their
 // bits, so that a refusal is promised to leave every byte, those of a NaN too.
-#[unsafe(no_mangle)]
-pub extern "C" fn munchalep_contact_inputs(board: &[i8; 26], inputs: &mut [u32]) -> u64
+pub fn munchalep_contact_inputs(board: &[i8; 26], inputs: &mut [u32]) -> u64
     ensures { (result ≡ packed (contact_answer checkers board.now (length inputs.old))) × (inputs.new ≡ contact_lent checkers board.now inputs.old) }
 {
     filled_number(inputs::contact_inputs(board, inputs))
 }
 
 // The same of the race net and exactly 186 floats.
-#[unsafe(no_mangle)]
-pub extern "C" fn munchalep_race_inputs(board: &[i8; 26], inputs: &mut [u32]) -> u64
+pub fn munchalep_race_inputs(board: &[i8; 26], inputs: &mut [u32]) -> u64
     ensures { (result ≡ packed (race_answer checkers board.now (length inputs.old))) × (inputs.new ≡ race_lent checkers board.now inputs.old) }
 {
     filled_number(inputs::race_inputs(board, inputs))
 }
 
 // The contact net's input that has the place.
-#[unsafe(no_mangle)]
-pub extern "C" fn munchalep_contact_input(board: &[i8; 26], place: usize, out: &mut u32) -> u64
+pub fn munchalep_contact_input(board: &[i8; 26], place: usize, out: &mut u32) -> u64
     ensures { PutInput (contact_input checkers board.now place) out.old result out.new }
 {
     put_input(inputs::contact_input(*board, place), out)
 }
 
 // The race net's input that has the place.
-#[unsafe(no_mangle)]
-pub extern "C" fn munchalep_race_input(board: &[i8; 26], place: usize, out: &mut u32) -> u64
+pub fn munchalep_race_input(board: &[i8; 26], place: usize, out: &mut u32) -> u64
     ensures { PutInput (race_input checkers board.now place) out.old result out.new }
 {
     put_input(inputs::race_input(*board, place), out)

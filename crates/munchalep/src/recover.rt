@@ -9,8 +9,7 @@ use bg_move::{Recovered, Step};
 
 // Writes the steps from the old board to an end, which is told from the mover's side, to the row's first places, and answers their
 // number; a row with fewer places stays as it was.
-#[unsafe(no_mangle)]
-pub extern "C" fn munchalep_recover(
+pub fn munchalep_recover(
     old: &[i8; 26],
     end: &[i8; 26],
     die1: usize,
