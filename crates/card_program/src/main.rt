@@ -1,5 +1,8 @@
 // Reads one card from standard input and prints its text.
-use libc::{STDIN_FILENO, STDOUT_FILENO};
+#![tactic(auto)]
+
+use std::io;
+use std::io::Print;
 
 // One byte more than the longest card, 12 for its start and 5 for each of 1,000 turns: a longer card is refused at that byte,
 // whatever comes after it.
@@ -8,10 +11,10 @@ const CARD: usize = 5013;
 // Room for the text of any card.
 const TEXT: usize = 42040;
 
-fn main() {
+fn main(rt: HostRuntime) -> io::Result<()> {
     let mut card = [0u8; CARD];
-    let length = io::read_full(STDIN_FILENO, &mut card);
+    let length = stored::read_full(&mut rt.stdin(), &mut card)?;
     let mut text = [0u8; TEXT];
     let bytes = card_text::text(&card[..length], &mut text);
-    io::write_all(STDOUT_FILENO, &text[..bytes]);
+    rt.write_all(&text[..bytes])
 }

@@ -4,8 +4,12 @@
 // refusal's number of reading it, the value in two bytes (the number of turns, or where the refused record begins), three times a
 // position's number in two bytes and 26 of the out parameter after it was asked (85 each where it stays as it was), and the card. Of
 // a card that is read, the start record is then written anew from position 0, and the last turn's from the last two positions.
+#![tactic(auto)]
+
 ghost use Rattle.std.specs.Prelude.{◌+◌, ◌<◌, ◌≤◌, length};
 
+use std::fs::File;
+use std::io;
 use stored::{MOST, Tally};
 
 const HEAD: usize = 89;
@@ -13,61 +17,61 @@ const HEAD: usize = 89;
 // The longest card that is stored.
 const ROOM: usize = 5100;
 
-fn main() {
-    let path = b"cards.bin";
-    let file = os::open_read(path);
-    if file < 0 {
-        os::fail(path);
-        return;
-    }
+fn main(rt: HostRuntime) -> io::Result<()> {
+    let path = "cards.bin";
+    let mut file = match File::open(&rt, path) {
+        Ok(file) => file,
+        Err(error) => return stored::tell_unopened(&rt, path.as_bytes(), error),
+    };
     let mut card = [0u8; ROOM];
     let mut buffer = [0u8; ROOM];
-    let tally = replay(file, &mut card, &mut buffer);
-    libc::close(file);
+    let tally = replay(&mut file, &mut card, &mut buffer)?;
     stored::tell(
-        path,
+        &rt,
+        path.as_bytes(),
         b"cards",
         b"less than a million whole records, with cards of at most 5100 bytes",
         tally,
-    );
+    )
 }
 
 // Replays the records of a file, one after another, each card in the same memory.
-fn replay(file: i32, card: &mut [u8], buffer: &mut [u8]) -> Tally {
+fn replay(file: &mut File, card: &mut [u8], buffer: &mut [u8]) -> io::Result<Tally> {
     let mut differ: u64 = 0;
     for replayed in 0..MOST {
         let mut head = [0u8; HEAD];
-        let got = io::read_full(file, &mut head);
+        let got = stored::read_full(file, &mut head)?;
         if got != HEAD {
-            return Tally {
+            return Ok(Tally {
                 replayed,
                 differ,
                 whole: got == 0,
-            };
+            });
         }
         let length = stored::two(&head, 0) as usize;
-        if !fill(file, card, length) {
-            return Tally {
+        if !fill(file, card, length)? {
+            return Ok(Tally {
                 replayed,
                 differ,
                 whole: false,
-            };
+            });
         }
         differ += differs(&head, card, length, buffer);
     }
-    Tally {
+    Ok(Tally {
         replayed: MOST,
         differ,
         whole: false,
-    }
+    })
 }
 
 // Reads as many bytes as the card has; false where the memory or the file has fewer.
-fn fill(file: i32, card: &mut [u8], length: usize) -> bool {
+fn fill(file: &mut File, card: &mut [u8], length: usize) -> io::Result<bool> {
     if card.len() < length {
-        return false;
+        return Ok(false);
     }
-    io::read_full(file, &mut card[..length]) == length
+    let got = stored::read_full(file, &mut card[..length])?;
+    Ok(got == length)
 }
 
 // 1 where an answer or what is written is not as stored, else 0.

@@ -2,30 +2,35 @@
 //
 // The file dice.bin has 799 answers: the 21 rolls and the 441 pairs, four bytes each, low byte first; then one byte each,
 // for every two dice from 0 to 8 the dice byte, 0 where they are refused, and for every byte whether it is that of a roll.
+#![tactic(auto)]
+
 ghost use Rattle.std.specs.Prelude.{◌<◌, ◌≤◌};
 
 use dice::{Dice, DiceByte};
+use std::fs::File;
+use std::io;
 use stored::Tally;
 
 // 21 + 441 answers of four bytes and 81 + 256 of one.
 const BYTES: usize = 2185;
 
-fn main() {
-    let path = b"dice.bin";
-    let file = os::open_read(path);
-    if file < 0 {
-        os::fail(path);
-        return;
-    }
-    let mut answers = io::buffer();
-    let got = io::read_full(file, &mut answers);
-    libc::close(file);
+// More than that, so that a longer file is told apart.
+const ROOM: usize = 4096;
+
+fn main(rt: HostRuntime) -> io::Result<()> {
+    let path = "dice.bin";
+    let mut file = match File::open(&rt, path) {
+        Ok(file) => file,
+        Err(error) => return stored::tell_unopened(&rt, path.as_bytes(), error),
+    };
+    let mut answers = [0u8; ROOM];
+    let got = stored::read_full(&mut file, &mut answers)?;
     let tally = Tally {
         replayed: 799,
         differ: differing(&answers),
         whole: got == BYTES,
     };
-    stored::tell(path, b"answers", b"2185 bytes", tally);
+    stored::tell(&rt, path.as_bytes(), b"answers", b"2185 bytes", tally)
 }
 
 // How many of the stored answers are not the crate's.

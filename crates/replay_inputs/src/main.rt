@@ -4,8 +4,12 @@
 // the refusal's number, and 203 of the lent floats afterwards, each as the whole number that it equals: 85 where it stays as it was,
 // and after the last. Each input is then asked by its place, and has to be the float that stands there. Floats are compared by their
 // bits.
+#![tactic(auto)]
+
 ghost use Rattle.std.specs.Prelude.{◌≤◌};
 
+use std::fs::File;
+use std::io;
 use stored::{MOST, Tally};
 
 const RECORD: usize = 232;
@@ -19,43 +23,42 @@ const FIRST: usize = 29;
 // What a float that stays holds: the bits of a NaN, which no input has.
 const STAYS: u32 = 0x7FA5_5A55;
 
-fn main() {
-    let path = b"inputs.bin";
-    let file = os::open_read(path);
-    if file < 0 {
-        os::fail(path);
-        return;
-    }
-    let tally = replay(file);
-    libc::close(file);
+fn main(rt: HostRuntime) -> io::Result<()> {
+    let path = "inputs.bin";
+    let mut file = match File::open(&rt, path) {
+        Ok(file) => file,
+        Err(error) => return stored::tell_unopened(&rt, path.as_bytes(), error),
+    };
+    let tally = replay(&mut file)?;
     stored::tell(
-        path,
+        &rt,
+        path.as_bytes(),
         b"answers",
         b"less than a million whole records of 232 bytes",
         tally,
-    );
+    )
 }
 
 // Replays the records of a file, one after another.
-fn replay(file: i32) -> Tally {
+fn replay(file: &mut File) -> io::Result<Tally> {
     let mut differ: u64 = 0;
     for replayed in 0..MOST {
         let mut record = [0u8; RECORD];
-        let got = io::read_full(file, &mut record);
+        let got = stored::read_full(file, &mut record)?;
         if got != RECORD {
-            return Tally {
+            return Ok(Tally {
                 replayed,
                 differ,
                 whole: got == 0,
-            };
+            });
         }
         differ += differs(&record);
     }
-    Tally {
+    Ok(Tally {
         replayed: MOST,
         differ,
         whole: false,
-    }
+    })
 }
 
 // 1 where an answer, or a lent float, is not the stored one, else 0.

@@ -3,49 +3,52 @@
 // The file key.bin has one record of 45 bytes an answer: the kind, 26 bytes of a board, ten of a key, and the answer in eight, low
 // byte first. Kind 0 writes the key of the board, kind 1 reads the board of the key. What is written or read stands in the record as
 // the out parameter holds it afterwards: 85 in each byte where it stays as it was.
+#![tactic(auto)]
+
 ghost use Rattle.std.specs.Prelude.{◌≤◌};
 
+use std::fs::File;
+use std::io;
 use stored::{MOST, Tally};
 
 const RECORD: usize = 45;
 
-fn main() {
-    let path = b"key.bin";
-    let file = os::open_read(path);
-    if file < 0 {
-        os::fail(path);
-        return;
-    }
-    let tally = replay(file);
-    libc::close(file);
+fn main(rt: HostRuntime) -> io::Result<()> {
+    let path = "key.bin";
+    let mut file = match File::open(&rt, path) {
+        Ok(file) => file,
+        Err(error) => return stored::tell_unopened(&rt, path.as_bytes(), error),
+    };
+    let tally = replay(&mut file)?;
     stored::tell(
-        path,
+        &rt,
+        path.as_bytes(),
         b"answers",
         b"less than a million whole records of 45 bytes",
         tally,
-    );
+    )
 }
 
 // Replays the records of a file, one after another.
-fn replay(file: i32) -> Tally {
+fn replay(file: &mut File) -> io::Result<Tally> {
     let mut differ: u64 = 0;
     for replayed in 0..MOST {
         let mut record = [0u8; RECORD];
-        let got = io::read_full(file, &mut record);
+        let got = stored::read_full(file, &mut record)?;
         if got != RECORD {
-            return Tally {
+            return Ok(Tally {
                 replayed,
                 differ,
                 whole: got == 0,
-            };
+            });
         }
         differ += differs(&record);
     }
-    Tally {
+    Ok(Tally {
         replayed: MOST,
         differ,
         whole: false,
-    }
+    })
 }
 
 // 1 where the answer, or a byte of the out parameter, is not the stored one, else 0.

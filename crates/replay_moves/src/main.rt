@@ -3,8 +3,12 @@
 // The file moves.bin has one record of 100 bytes a board and roll, numbers low byte first: 26 of the board, the dice in eight bytes
 // each, the answer of count in eight, the checksum of the whole list in eight (0 where it is refused), an end number in eight, the
 // answer of end in eight, and 26 of its out parameter afterwards (85 each where it stays as it was).
+#![tactic(auto)]
+
 ghost use Rattle.std.specs.Prelude.{◌<◌, ◌≤◌};
 
+use std::fs::File;
+use std::io;
 use stored::{MOST, Tally};
 
 const RECORD: usize = 100;
@@ -12,44 +16,43 @@ const RECORD: usize = 100;
 // Bytes for the most ends that a roll can have: 26 for each of 17,550.
 const ROOM: usize = 456300;
 
-fn main() {
-    let path = b"moves.bin";
-    let file = os::open_read(path);
-    if file < 0 {
-        os::fail(path);
-        return;
-    }
+fn main(rt: HostRuntime) -> io::Result<()> {
+    let path = "moves.bin";
+    let mut file = match File::open(&rt, path) {
+        Ok(file) => file,
+        Err(error) => return stored::tell_unopened(&rt, path.as_bytes(), error),
+    };
     let mut list = [0u8; ROOM];
-    let tally = replay(file, &mut list);
-    libc::close(file);
+    let tally = replay(&mut file, &mut list)?;
     stored::tell(
-        path,
+        &rt,
+        path.as_bytes(),
         b"boards and rolls",
         b"less than a million whole records of 100 bytes",
         tally,
-    );
+    )
 }
 
 // Replays the records of a file, one after another, each in the same list.
-fn replay(file: i32, list: &mut [u8]) -> Tally {
+fn replay(file: &mut File, list: &mut [u8]) -> io::Result<Tally> {
     let mut differ: u64 = 0;
     for replayed in 0..MOST {
         let mut record = [0u8; RECORD];
-        let got = io::read_full(file, &mut record);
+        let got = stored::read_full(file, &mut record)?;
         if got != RECORD {
-            return Tally {
+            return Ok(Tally {
                 replayed,
                 differ,
                 whole: got == 0,
-            };
+            });
         }
         differ += differs(&record, list);
     }
-    Tally {
+    Ok(Tally {
         replayed: MOST,
         differ,
         whole: false,
-    }
+    })
 }
 
 // 1 where an answer, the list or a byte of the out parameter is not the stored one, else 0.

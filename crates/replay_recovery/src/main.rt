@@ -2,51 +2,54 @@
 //
 // The file recovery.bin has one record of 64 bytes an answer: 26 of the board, 26 of the end before switching, the two dice, the
 // refusal's number, the number of steps, and eight of the steps, each a from and a to, with zeros after them. It asks the function
-// that gives them by value: code that makes a row of structs to lend has no proof that the tool writes.
+// that gives them by value, below the one that writes them into a lent row.
+#![tactic(auto)]
+
 ghost use Rattle.std.specs.Prelude.{◌≤◌};
 
 use bg_move::Steps;
+use std::fs::File;
+use std::io;
 use stored::{MOST, Tally};
 
 const RECORD: usize = 64;
 
-fn main() {
-    let path = b"recovery.bin";
-    let file = os::open_read(path);
-    if file < 0 {
-        os::fail(path);
-        return;
-    }
-    let tally = replay(file);
-    libc::close(file);
+fn main(rt: HostRuntime) -> io::Result<()> {
+    let path = "recovery.bin";
+    let mut file = match File::open(&rt, path) {
+        Ok(file) => file,
+        Err(error) => return stored::tell_unopened(&rt, path.as_bytes(), error),
+    };
+    let tally = replay(&mut file)?;
     stored::tell(
-        path,
+        &rt,
+        path.as_bytes(),
         b"answers",
         b"less than a million whole records of 64 bytes",
         tally,
-    );
+    )
 }
 
 // Replays the records of a file, one after another.
-fn replay(file: i32) -> Tally {
+fn replay(file: &mut File) -> io::Result<Tally> {
     let mut differ: u64 = 0;
     for replayed in 0..MOST {
         let mut record = [0u8; RECORD];
-        let got = io::read_full(file, &mut record);
+        let got = stored::read_full(file, &mut record)?;
         if got != RECORD {
-            return Tally {
+            return Ok(Tally {
                 replayed,
                 differ,
                 whole: got == 0,
-            };
+            });
         }
         differ += differs(&record);
     }
-    Tally {
+    Ok(Tally {
         replayed: MOST,
         differ,
         whole: false,
-    }
+    })
 }
 
 // 1 where the refusal or the steps are not the stored ones, else 0.

@@ -1,7 +1,12 @@
-// What the programs share that replay stored answers: how the bytes of a record are read, and what is told of a file's records.
-ghost use Rattle.std.specs.Prelude.{◌<◌};
+// What the programs share: how they read; of those that replay stored answers, how the bytes of a record are read, and what is told
+// of a file's records.
+#![tactic(auto)]
 
-use libc::{STDERR_FILENO, STDOUT_FILENO};
+ghost use Rattle.std.specs.Prelude.{◌<◌, ◌≤◌, length, take, IfOk};
+ghost use Rattle.std.specs.Io.KnownBytes.{Consumes, IsAtEnd};
+
+use std::io;
+use std::io::{Read, Write};
 
 // More records than any file has: a program ends whatever it reads.
 pub const MOST: u64 = 1000000;
@@ -15,22 +20,70 @@ pub struct Tally {
 }
 
 // Writes what a file's records showed, `kind` saying what they are; or, where the file was not whole, the shape that it must have.
-pub fn tell(path: &[u8], kind: &[u8], shape: &[u8], tally: Tally) {
+pub fn tell(
+    rt: &HostRuntime,
+    path: &[u8],
+    kind: &[u8],
+    shape: &[u8],
+    tally: Tally,
+) -> io::Result<()> {
     if !tally.whole {
-        io::write_all(STDERR_FILENO, path);
-        io::write_all(STDERR_FILENO, b": it must have ");
-        io::write_all(STDERR_FILENO, shape);
-        io::write_all(STDERR_FILENO, b"\n");
-        return;
+        let mut err = rt.stderr();
+        err.write_all(path)?;
+        err.write_all(b": it must have ")?;
+        err.write_all(shape)?;
+        return err.write_all(b"\n");
     }
-    io::write_all(STDOUT_FILENO, path);
-    io::write_all(STDOUT_FILENO, b": ");
-    io::print_decimal(STDOUT_FILENO, tally.replayed);
-    io::write_all(STDOUT_FILENO, b" ");
-    io::write_all(STDOUT_FILENO, kind);
-    io::write_all(STDOUT_FILENO, b" replayed, ");
-    io::print_decimal(STDOUT_FILENO, tally.differ);
-    io::write_all(STDOUT_FILENO, b" differ\n");
+    let mut out = rt.stdout();
+    out.write_all(path)?;
+    write!(out, ": {} ", tally.replayed)?;
+    out.write_all(kind)?;
+    writeln!(out, " replayed, {} differ", tally.differ)
+}
+
+// Writes to standard error why the file at `path` was not opened: the system's words, without the number that an `io::Error`
+// puts in brackets after them.
+pub fn tell_unopened(rt: &HostRuntime, path: &[u8], error: io::Error) -> io::Result<()> {
+    let mut text = [0u8; WORDS];
+    let mut room: &mut [u8] = &mut text;
+    write!(room, "{error}")?;
+    let mut err = rt.stderr();
+    err.write_all(path)?;
+    err.write_all(b": ")?;
+    err.write_all(words(&text))?;
+    err.write_all(b"\n")
+}
+
+// Room for the text of any error of the system.
+const WORDS: usize = 288;
+
+// The text up to the number of the error, or up to the zeros after it.
+fn words(text: &[u8]) -> &[u8] {
+    for i in 0..text.len() {
+        let rest = &text[i..];
+        if rest.starts_with(b" (os error ") || rest.starts_with(b"\0") {
+            return &text[..i];
+        }
+    }
+    text
+}
+
+// Reads until `buf` is full or the input ends, however small the pieces are that it comes in, and returns how many bytes it put at
+// the start of `buf`.
+pub fn read_full<R: Read>(reader: &mut R, buf: &mut [u8]) -> io::Result<usize>
+    ensures count { IfOk result (λ n. n ≤ length buf.new) }
+    ensures bytes { IfOk result (λ n. Consumes (R.remaining reader.old) (R.remaining reader.new) (take n buf.new)) }
+    ensures end { IfOk result (λ n. n < length buf.new → IsAtEnd (R.remaining reader.new)) }
+{
+    let mut done = 0;
+    while done < buf.len() {
+        let n = reader.read(&mut buf[done..])?;
+        if n == 0 {
+            break;
+        }
+        done += n;
+    }
+    Ok(done)
 }
 
 // The byte at `at`, and 0 where the record has ended.
