@@ -1,5 +1,5 @@
 //! Links the proved static library, `libmunchalep.a`: from the folder that `MUNCHALEP_LIB` names,
-//! else from where `rt staticlib munchalep` puts it. A relative path starts at this package.
+//! else from where `./build library` puts it. A relative path starts at this package.
 
 use std::{env, path};
 
@@ -14,8 +14,8 @@ fn main() {
         println!("cargo::rustc-link-lib=static=munchalep");
     } else {
         println!(
-            "cargo::error={} is not there. Make it by `rt staticlib munchalep` at the \
-             repository's root, or set MUNCHALEP_LIB to the folder that has it.",
+            "cargo::error={} is not there. Make it by `./build library` at the repository's root, \
+             or set MUNCHALEP_LIB to the folder that has it.",
             library.display()
         );
     }
