@@ -1,5 +1,4 @@
--- What filling and one input answer, by the tests that led there.
--- Assumes nothing.
+-- What filling and one input answer, by the tests that led there. Assumes nothing.
 use mathlib.Core.Path.{◌≡◌, refl}
 use mathlib.Core.List.{List, map}
 use Prim.Native.Nat.{ℕ, ◌<◌, ◌≤◌}

@@ -1,10 +1,10 @@
--- The loop's invariant: what is lost below n is what is lost below i.
+use borrow.Author.Rules.{rules}
 use mathlib.Core.Path.{◌≡◌, sym, ap, ◌∙◌}
 use Prim.Native.Nat.{◌-◌}
 use native.Mathlib.Omega.{arith}
 use mir.Syntax.{w8}
 use Rattle.ints.proofs.Signed.{held-is}
-use Rattle.position.specs.Board.{xs}
+use Rattle.position.specs.Board.{entry, xs}
 use Rattle.bg_move.specs.Steps.{lost}
 use Rattle.bg_move.proofs.Losses.{lost-here, lost-less, lost-none}
 use Rattle.bg_move.proofs.lost.Goals as goal
@@ -13,14 +13,14 @@ use Rattle.bg_move.proofs.lost.Goals.{After-pos_part, After-pos_part-in-loop-i, 
 -- what the calls answer: x's checkers at the entry
 module _ (c : After-pos_part) where
   old-x : c.pos_part.result ≡ xs c.args.b.now (c.loop-i.i - 1)
-  old-x = rw (held-is w8 _ c.pos_part-arg-1.given) at c.pos_part.ensures
+  old-x = rw (held-is w8 (entry c.args.b.now (c.loop-i.i - 1)) (search rules)) at c.pos_part.ensures
 
 module _ (c : After-pos_part-in-loop-i) where
   abbrev at-loop : At-loop-i
   at-loop = c.before.before.before.before.before
 
   new-x : c.pos_part-in-loop-i.result ≡ xs at-loop.args.e.now (at-loop.loop-i.i - 1)
-  new-x = rw (held-is w8 _ c.pos_part-arg-in-loop-i-1.given) at c.pos_part-in-loop-i.ensures
+  new-x = rw (held-is w8 (entry at-loop.args.e.now (at-loop.loop-i.i - 1)) (search rules)) at c.pos_part-in-loop-i.ensures
 
 pub returns-then-pos_part : goal.returns-then-pos_part
 returns-then-pos_part c =

@@ -1,3 +1,4 @@
+-- The loop's invariant: what is lost below n is what is lost below i.
 use mathlib.Core.Path.{◌≡◌}
 use Prim.Native.Nat.{◌≤◌}
 use Rattle.bg_move.specs.Steps.{lost}

@@ -1,10 +1,10 @@
+use borrow.Author.Rules.{rules}
 use mathlib.Core.Path.{◌≡◌, sym, ◌∙◌}
 use native.Mathlib.Omega.{arith}
-use Prim.Native.Nat.{◌<◌}
 use lib.IntN.{ℤ}
 use mir.Syntax.{w8}
 use Rattle.ints.specs.Signed.{pos_part}
-use Rattle.ints.proofs.Signed.{held-is, pos_part-lt}
+use Rattle.ints.proofs.Signed.{held-is}
 use Rattle.position.specs.Board.{entry, xs}
 use Rattle.bg_move.proofs.Losses.{next-same, next-below}
 use Rattle.bg_move.proofs.lost_next.Goals as goal
@@ -13,17 +13,14 @@ use Rattle.bg_move.proofs.lost_next.Goals.{After-pos_part, After-pos_part-2}
 -- what the calls answer: x's checkers at the entry
 module _ (c : After-pos_part) where
   old-x : c.pos_part.result ≡ xs c.args.b.now c.args.first
-  old-x = rw (held-is w8 _ c.pos_part-arg-1.given) at c.pos_part.ensures
+  old-x = rw (held-is w8 (entry c.args.b.now c.args.first) (search rules)) at c.pos_part.ensures
 
 module _ (c : After-pos_part-2) where
   abbrev read : ℤ
   read = entry c.args.e.now c.args.first
 
   new-x : c.pos_part-2.result ≡ pos_part read
-  new-x = rw (held-is w8 read c.pos_part-arg-2-1.given) at c.pos_part-2.ensures
-
-  small-new : pos_part read < 128
-  small-new = pos_part-lt read 128 c.pos_part-arg-2-1.given
+  new-x = rw (held-is w8 read (search rules)) at c.pos_part-2.ensures
 
 pub returns-then-pos_part : goal.returns-then-pos_part
 returns-then-pos_part c =

@@ -1,4 +1,3 @@
--- .
 use mathlib.Core.Path.{refl}
 use Rattle.ints.specs.Sums.{values}
 use Rattle.bg_move.specs.Answers.{steps_value}

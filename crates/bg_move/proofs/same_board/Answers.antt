@@ -1,4 +1,3 @@
--- The loop's invariant: the entries below i are equal.
 use mathlib.Core.Path.{◌≡◌, refl, sym, ap, ◌∙◌}
 use mathlib.Core.Bool.{Bool, true, false}
 use mathlib.Core.List.{List}

@@ -1,3 +1,4 @@
+-- The loop's invariant: the entries below i are equal.
 use mathlib.Core.Path.{◌≡◌}
 use Prim.Native.Nat.{ℕ, ◌-◌, ◌≤◌, ◌<◌}
 use Rattle.position.specs.Board.{entry}

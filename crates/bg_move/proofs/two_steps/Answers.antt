@@ -1,4 +1,3 @@
--- .
 use Rattle.ints.specs.Sums.{values}
 use Rattle.bg_move.specs.Answers.{steps_value}
 use Rattle.bg_move.proofs.two_steps.Goals as goal

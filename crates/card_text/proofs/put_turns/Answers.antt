@@ -1,4 +1,3 @@
--- The loop's invariant: the lines of the first k turns are put, and b is the board after them.
 use mathlib.Core.Path.{◌≡◌, refl, sym, ap, subst, ◌∙◌}
 use mathlib.Core.List.{List}
 use Prim.Native.Nat.{ℕ, ◌+◌}

@@ -1,3 +1,4 @@
+-- The loop's invariant: the lines of the first k turns are put, and b is the board after them.
 use mathlib.Core.Path.{◌≡◌}
 use Prim.Native.Nat.{◌+◌, ◌-◌, ◌*◌, ◌≤◌}
 use Rattle.card.specs.Read.{board_after}

@@ -20,13 +20,13 @@ ends-count-requires c =
     let card = c.args.card.now in
     let k = c.args.k in
     rw (record-byte card k 2)
-    (can-play c.requires.0 (drop (turn_at k) card) (record-bytes card k (λ i. omega (arith, c.shared_slice_known-4-1.given i))) c.requires.2)
+    (can-play c.requires.0 (drop (turn_at k) card) (record-bytes card k (λ i. omega (arith, c.type_inv.card i))) c.requires.2)
 
 pub returns : goal.returns
 returns c =
     let card = c.args.card.now in
     let k = c.args.k in
     rw (record-byte card k 2, record-byte card k 3, record-byte card k 4)
-    (turn-told c.requires.0 (drop (turn_at k) card) (record-bytes card k (λ i. omega (arith, c.shared_slice_known-4-1.given i))) c.requires.2 _ refl refl
+    (turn-told c.requires.0 (drop (turn_at k) card) (record-bytes card k (λ i. omega (arith, c.type_inv.card i))) c.requires.2 _ refl refl
     (rw (record-byte card k 2) at c.ends-count.ensures) _
     (rw (record-byte card k 2, record-byte card k 3, record-byte card k 4) at c.end.ensures) refl)

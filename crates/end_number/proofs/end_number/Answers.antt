@@ -1,5 +1,3 @@
--- The loop's invariant: the end has no number below the window's first; the measure is the
--- number of ends from there on.
 use mathlib.Core.Path.{◌≡◌, sym, ap, ◌∙◌}
 use Prim.Native.Nat.{ℕ, ◌+◌, ◌≤◌}
 use native.Mathlib.Omega.{arith}

@@ -1,3 +1,4 @@
+-- The loop's invariant: the end has no number below the window's first; the measure is the number of ends from there on.
 use mathlib.Core.Path.{◌≡◌}
 use Prim.Native.Nat.{◌-◌, ◌≤◌}
 use lib.ListN.{length}

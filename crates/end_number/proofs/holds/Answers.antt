@@ -1,4 +1,3 @@
--- The loop's invariant: the entries that the slot's bytes passed hold are the board's.
 use mathlib.Core.Path.{◌≡◌, ap, ◌∙◌}
 use Prim.Native.Nat.{ℕ}
 use native.Mathlib.Omega.{arith}

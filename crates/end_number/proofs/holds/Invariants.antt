@@ -1,3 +1,4 @@
+-- The loop's invariant: the entries that the slot's bytes passed hold are the board's.
 use mathlib.Core.Path.{◌≡◌}
 use Prim.Native.Nat.{ℕ, ◌+◌, ◌-◌, ◌≤◌, ◌<◌}
 use lib.IntN.{pos}

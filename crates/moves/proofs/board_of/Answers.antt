@@ -1,4 +1,3 @@
--- The loop's invariant: the entries passed are those that the bytes hold.
 use mathlib.Core.Path.{◌≡◌, sym, ◌∙◌}
 use mathlib.Core.List.{map}
 use native.Mathlib.Omega.{arith}

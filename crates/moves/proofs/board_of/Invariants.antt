@@ -1,3 +1,4 @@
+-- The loop's invariant: the entries passed are those that the bytes hold.
 use mathlib.Core.Path.{◌≡◌}
 use Prim.Native.Nat.{ℕ, ◌-◌, ◌≤◌, ◌<◌}
 use lib.IntN.{pos}

@@ -5,18 +5,14 @@ use native.Mathlib.Omega.{arith}
 use lib.ListN.{length}
 use Rattle.ints.specs.Answer.{value, refused}
 use Rattle.position.specs.Board.{checkers}
-use Rattle.moves.specs.Answers.{CanPlay, play_refusal, ends_count}
+use Rattle.moves.specs.Answers.{play_refusal, ends_count}
 use Rattle.moves.proofs.Entries.{count-is, count_most, list-refused, list-short, list_all}
 use Rattle.moves.proofs.list.Goals as goal
 use Rattle.moves.proofs.list.Goals.{Else-refused-ne0, then-out-lt-ROOM+else-out-n, else-out-lt-ROOM}
 
 -- past the refusals a play can be asked
-module _ (c : Else-refused-ne0) where
-  ok : play_refusal checkers c.args.b c.args.die1 c.args.die2 ≡ 0
-  ok = sym c.play_refusal-refused.ensures.is ∙ c.if-refused-ne0.false
-
-  can : CanPlay checkers c.args.b c.args.die1 c.args.die2
-  can = c.play_refusal-refused.ensures.ok c.if-refused-ne0.false
+ok : (c : Else-refused-ne0) → play_refusal checkers c.args.b c.args.die1 c.args.die2 ≡ 0
+ok c = sym c.play_refusal-refused.ensures.is ∙ c.if-refused-ne0.false
 
 pub returns-then-refused-ne0 : goal.returns-then-refused-ne0
 returns-then-refused-ne0 c =

@@ -1,4 +1,5 @@
 -- The code's tests are the definition's, in their order.
+use borrow.Author.Rules.{rules}
 use mathlib.Core.Path.{◌≡◌, sym, ap, ◌∙◌}
 use mathlib.Core.Bool.{true}
 use Prim.Native.Nat.{◌-◌, ◌<◌}
@@ -16,14 +17,14 @@ module _ (c : Joined-from-ne-X_BAR) where
   has : 0 < xs c.args.b.now c.args.from
   has =
       let a = c.args in
-      none-no w8 (entry a.b.now a.from) c.t6-1.given c.if-b-from-lt1.false
+      none-no w8 (entry a.b.now a.from) (search rules) c.if-b-from-lt1.false
 
   bar : bar_test c.args.b.now c.args.from c.args.die ≡ true
   bar =
       let a = c.args in
       let b = a.b.now in
       elim c.if-from-ne-X_BAR.branch [
-        | then-from-ne-X_BAR+else-b-gt0 w ↦ bar-empty b a.from a.die w.if-from-ne-X_BAR.true (above-no w8 (entry b 25) w.t10-1.given w.if-b-gt0.false)
+        | then-from-ne-X_BAR+else-b-gt0 w ↦ bar-empty b a.from a.die w.if-from-ne-X_BAR.true (above-no w8 (entry b 25) (search rules) w.if-b-gt0.false)
         | else-from-ne-X_BAR w ↦ bar-from b a.from a.die w.if-from-ne-X_BAR.false has
       ]
 
@@ -31,19 +32,19 @@ pub returns-then-b-from-lt1 : goal.returns-then-b-from-lt1
 returns-then-b-from-lt1 c =
     let a = c.args in
     let b = a.b.now in
-    sym (can-none b a.from a.die (none-yes w8 (entry b a.from) c.t6-1.given c.if-b-from-lt1.true))
+    sym (can-none b a.from a.die (none-yes w8 (entry b a.from) (search rules) c.if-b-from-lt1.true))
 
 pub returns-then-b-gt0 : goal.returns-then-b-gt0
 returns-then-b-gt0 c =
     let a = c.args in
     let b = a.b.now in
-    sym (can-bar b a.from a.die c.if-from-ne-X_BAR.true (above-yes w8 (entry b 25) c.t10-1.given c.if-b-gt0.true))
+    sym (can-bar b a.from a.die c.if-from-ne-X_BAR.true (above-yes w8 (entry b 25) (search rules) c.if-b-gt0.true))
 
 pub returns-then-die-from : goal.returns-then-die-from
 returns-then-die-from c =
     let a = c.args in
     let b = a.b.now in
-    open_is w8 (entry b (a.from - a.die)) c.result-1.given
+    open_is w8 (entry b (a.from - a.die)) (search rules)
     ∙ sym (can-land b a.from a.die (has (goal.at.returns-then-die-from c).Joined-from-ne-X_BAR) (bar (goal.at.returns-then-die-from c).Joined-from-ne-X_BAR) c.if-die-from.true)
 
 pub returns-then-from-die : goal.returns-then-from-die

@@ -17,7 +17,7 @@ pub returns-then-b-lt0 : goal.returns-then-b-lt0
 returns-then-b-lt0 c =
     let b = c.args.b in
     record {
-      judged = judged-3 checkers b (omega arith) (omega arith) (below-yes w8 (entry b 25) c.t8-1.given c.if-b-lt0.true);
+      judged = judged-3 checkers b (omega arith) (omega arith) (below-yes w8 (entry b 25) (search rules) c.if-b-lt0.true);
       x = search rules;
       o = search rules;
     }
@@ -25,9 +25,9 @@ returns-then-b-lt0 c =
 pub returns-then-b-gt0 : goal.returns-then-b-gt0
 returns-then-b-gt0 c =
     let b = c.args.b in
-    let low = below-no w8 (entry b 25) c.t8-1.given c.if-b-lt0.false in
+    let low = below-no w8 (entry b 25) (search rules) c.if-b-lt0.false in
     record {
-      judged = judged-4 checkers b (omega arith) (omega arith) low (above-yes w8 (entry b 0) c.t8-2-1.given c.if-b-gt0.true);
+      judged = judged-4 checkers b (omega arith) (omega arith) low (above-yes w8 (entry b 0) (search rules) c.if-b-gt0.true);
       x = search rules;
       o = search rules;
     }
@@ -36,8 +36,8 @@ pub returns : goal.returns
 returns c =
     let s = c in
     let b = s.args.b in
-    let low = below-no w8 (entry b 25) c.t8-1.given c.if-b-lt0.false in
-    let top = above-no w8 (entry b 0) c.t8-2-1.given c.if-b-gt0.false in
+    let low = below-no w8 (entry b 25) (search rules) c.if-b-lt0.false in
+    let top = above-no w8 (entry b 0) (search rules) c.if-b-gt0.false in
     record {
       judged = judged-0 checkers b (omega arith) (omega arith) low top s.well_formed.0.1.0.1;
       x = search rules;

@@ -1,5 +1,4 @@
--- The loop's invariant: the one sum is x's checkers on the entries passed and 65536 times
--- o's, each of which adds at most 128.
+use borrow.Author.Rules.{rules}
 use mathlib.Core.Path.{◌≡◌}
 use Prim.Native.Nat.{◌≤◌}
 use native.Mathlib.Omega.{arith}
@@ -19,20 +18,20 @@ module _ (c : After-pos_part) where
   read-x = entry c.args.b.now c.loop-i.i
 
   more-x : c.pos_part.result ≡ pos_part read-x
-  more-x = rw (held-is w8 read-x c.pos_part-arg-1.given) at c.pos_part.ensures
+  more-x = rw (held-is w8 read-x (search rules)) at c.pos_part.ensures
 
   small-x : c.pos_part.result ≤ 128
-  small-x = omega (arith, more-x, pos_part-lt read-x 128 c.pos_part-arg-1.given)
+  small-x = omega (arith, more-x, pos_part-lt read-x 128 (search rules))
 
 module _ (c : After-neg_part) where
   abbrev read-o : ℤ
   read-o = entry c.args.b.now c.loop-i.i
 
   more-o : c.neg_part.result ≡ neg_part read-o
-  more-o = rw (held-is w8 read-o c.neg_part-arg-1.given) at c.neg_part.ensures
+  more-o = rw (held-is w8 read-o (search rules)) at c.neg_part.ensures
 
   small-o : c.neg_part.result ≤ 128
-  small-o = omega (arith, more-o, neg_part-le read-o 128 c.neg_part-arg-1.given)
+  small-o = omega (arith, more-o, neg_part-le read-o 128 (search rules))
 
 pub loop-i-init : goal.loop-i-init
 unfolding sum_to

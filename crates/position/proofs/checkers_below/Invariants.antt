@@ -1,3 +1,4 @@
+-- The loop's invariant: the one sum is x's checkers on the entries passed and 65536 times o's, each of which adds at most 128.
 use mathlib.Core.Path.{◌≡◌}
 use Prim.Native.Nat.{◌+◌, ◌-◌, ◌*◌, ◌≤◌}
 use Rattle.ints.specs.Sums.{sum_to}

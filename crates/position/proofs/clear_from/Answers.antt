@@ -1,4 +1,4 @@
--- The loop's invariant: no x on the points passed.
+use borrow.Author.Rules.{rules}
 use mathlib.Core.Path.{sym}
 use native.Mathlib.Omega.{arith}
 use mir.Syntax.{w8}
@@ -11,7 +11,7 @@ pub returns-then-b-i-gt0 : goal.returns-then-b-i-gt0
 returns-then-b-i-gt0 c =
     let b = c.args.b.now in
     let i = c.loop-i.i in
-    sym (clear-no b _ i c.loop-i.invariant.0 (omega arith) (above-yes w8 (entry b i) c.t7-1.given c.if-b-i-gt0.true))
+    sym (clear-no b _ i c.loop-i.invariant.0 (omega arith) (above-yes w8 (entry b i) (search rules) c.if-b-i-gt0.true))
 
 pub returns : goal.returns
 returns c =

@@ -1,3 +1,4 @@
+-- The loop's invariant: no x on the points passed.
 use mathlib.Core.Path.{◌≡◌}
 use Prim.Native.Nat.{ℕ, ◌-◌, ◌≤◌, ◌<◌}
 use Rattle.position.specs.Board.{xs}

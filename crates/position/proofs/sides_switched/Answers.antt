@@ -1,4 +1,3 @@
--- The loop's invariant: the entries of the new board from 25 down that are written are minus the old board's.
 use Prim.Native.Nat.{◌-◌}
 use native.Mathlib.Omega.{arith}
 use lib.IntN.{pos, neg_ℤ}

@@ -1,3 +1,4 @@
+-- The loop's invariant: the entries of the new board from 25 down that are written are minus the old board's.
 use Prim.Native.Nat.{◌-◌}
 use lib.IntN.{pos, neg_ℤ}
 use Rattle.ints.proofs.Sums.{Filled}

@@ -1,4 +1,3 @@
--- The loop's invariant: n steps are found, and those that follow are the ones from the board on.
 use mathlib.Core.Path.{◌≡◌, sym, ◌∙◌}
 use Prim.Native.Nat.{◌≤◌}
 use native.Mathlib.Omega.{arith}

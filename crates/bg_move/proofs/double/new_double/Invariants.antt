@@ -1,3 +1,4 @@
+-- The loop's invariant: n steps are found, and those that follow are the ones from the board on.
 use Prim.Native.Nat.{◌-◌}
 use Rattle.bg_move.proofs.Doublets.{Found}
 use Rattle.bg_move.proofs.double.new_double.Given as goal

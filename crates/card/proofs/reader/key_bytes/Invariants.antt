@@ -1,3 +1,4 @@
+-- The loop's invariant: the bytes below i are copied.
 use mathlib.Core.Path.{◌≡◌}
 use Prim.Native.Nat.{ℕ, ◌+◌, ◌-◌, ◌≤◌, ◌<◌}
 use lib.ListN.{length, get_or}

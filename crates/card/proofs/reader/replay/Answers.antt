@@ -1,4 +1,3 @@
--- The loop's invariant: the turns read so far, and what is left to answer.
 use mathlib.Core.Path.{refl}
 use mathlib.Core.List.{List}
 use Prim.Native.Nat.{ℕ}

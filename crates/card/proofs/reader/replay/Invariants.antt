@@ -1,3 +1,4 @@
+-- The loop's invariant: the turns read so far, and what is left to answer.
 use Prim.Native.Nat.{◌-◌}
 use Rattle.position.specs.Board.{checkers}
 use Rattle.card.specs.Game.{turns_most}

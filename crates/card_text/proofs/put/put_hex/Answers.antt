@@ -1,4 +1,3 @@
--- The loop's invariant: the first i bytes are written, two digits each.
 use native.Mathlib.Omega.{arith}
 use Rattle.card_text.proofs.Writing.{hex-start, hex-next}
 use Rattle.card_text.proofs.put.put_hex.Goals as goal

@@ -1,3 +1,4 @@
+-- The loop's invariant: the first i bytes are written, two digits each.
 use mathlib.Core.Path.{◌≡◌}
 use Prim.Native.Nat.{◌+◌, ◌-◌, ◌*◌, ◌≤◌}
 use lib.ListN.{take}

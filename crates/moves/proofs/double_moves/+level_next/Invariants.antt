@@ -1,5 +1,5 @@
--- The ends of `left` steps are, for each origin in turn, those of the others after a step from there. The loop's invariant: the ends of
--- the origins that are left, each of which can be played, remain to be passed.
+-- The ends of `left` steps are, for each origin in turn, those of the others after a step from there. The loop's invariant: the ends of the
+-- origins that are left, each of which can be played, remain to be passed.
 use mathlib.Core.Path.{◌≡◌}
 use mathlib.Core.Bool.{true}
 use mathlib.Core.List.{List}

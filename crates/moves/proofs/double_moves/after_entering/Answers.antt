@@ -1,5 +1,4 @@
--- The loop's invariant: the ends from the present board, with the steps that are
--- left, are those from the first one.
+use borrow.Author.Rules.{rules}
 use mathlib.Core.Path.{◌≡◌, ap, ◌∙◌}
 use mathlib.Core.Bool.{true, not}
 use Prim.Native.Nat.{◌+◌, ◌-◌, ◌*◌, ◌<◌}
@@ -17,14 +16,14 @@ use Rattle.moves.proofs.double_moves.after_entering.Goals.{Else-board-die-ltminu
 
 -- past the first test x has a checker on the bar
 has : (c : Else-board-lt1) → 0 < xs c.loop-left.board 25
-has c = none-no w8 (entry c.loop-left.board 25) c.t9-1.given c.if-board-lt1.false
+has c = none-no w8 (entry c.loop-left.board 25) (search rules) c.if-board-lt1.false
 
 -- past the second it can enter
 can : (c : Else-board-die-ltminus1)
     → can_step c.loop-left.board 25 c.args.die ≡ true
 can c =
     let l = c.before.before.before.before.before in
-    enter-is l.args.die l.loop-left.board (has c.before.before) (omega arith) c.t9-in-loop-left-1.given ∙ ap not c.if-board-die-ltminus1.false
+    enter-is l.args.die l.loop-left.board (has c.before.before) (omega arith) (search rules) ∙ ap not c.if-board-die-ltminus1.false
 
 pub loop-left-preserved : goal.loop-left-preserved
 loop-left-preserved c =
@@ -50,4 +49,4 @@ pub returns-then-board-die-ltminus1 : goal.returns-then-board-die-ltminus1
 returns-then-board-die-ltminus1 c =
     let d = c.args.die in
     let b = c.loop-left.board in
-    (c.loop-left.invariant, λ h. most-blocked d b h (enter-is d b h (omega arith) c.t9-in-loop-left-1.given ∙ ap not c.if-board-die-ltminus1.true) c.loop-left.left)
+    (c.loop-left.invariant, λ h. most-blocked d b h (enter-is d b h (omega arith) (search rules) ∙ ap not c.if-board-die-ltminus1.true) c.loop-left.left)

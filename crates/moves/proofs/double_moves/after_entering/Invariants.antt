@@ -1,3 +1,4 @@
+-- The loop's invariant: the ends from the present board, with the steps that are left, are those from the first one.
 use Rattle.moves.specs.Entering.{Entering}
 use Rattle.moves.proofs.double_moves.after_entering.Given as goal
 

@@ -1,5 +1,3 @@
--- The loop's invariant: nothing was written, and the ends of at most `left` steps are
--- those of at most k.
 use mathlib.Core.Path.{◌≡◌, ap, ◌∙◌}
 use native.Mathlib.Omega.{arith}
 use Rattle.rules.specs.Ends.{doubles, most}

@@ -1,3 +1,4 @@
+-- The loop's invariant: nothing was written, and the ends of at most `left` steps are those of at most k.
 use mathlib.Core.Path.{◌≡◌}
 use Prim.Native.Nat.{◌≤◌}
 use Rattle.rules.specs.Ends.{most}

@@ -1,6 +1,3 @@
--- Where no x stands above the smaller die there is nothing to pass. The loop's
--- invariant: what is still to be passed, from here, is the ends that begin with a step from a point of `rest`; each turn passes those of
--- the lowest. The measure is `rest`.
 use mathlib.Core.Path.{sym, ap, ◌∙◌}
 use mathlib.Core.List.{List}
 use Prim.Native.Nat.{ℕ, ◌+◌}

@@ -1,5 +1,4 @@
--- What enters with each die first is the list of both dice, and where that passes
--- no end it is empty.
+-- What enters with each die first is the list of both dice, and where that passes no end it is empty.
 use native.Mathlib.Omega.{arith}
 use Rattle.rules.specs.Ends.{both, mixed}
 use Rattle.dice.specs.Dice.{Die}

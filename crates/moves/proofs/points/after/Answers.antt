@@ -1,4 +1,5 @@
 -- It takes the digit of p away where the last checker leaves, and sets that of the point reached.
+use borrow.Author.Rules.{rules}
 use Prim.Native.Nat.{◌^◌, ◌-◌}
 use native.Mathlib.Omega.{arith}
 use borrow.Author.Tests.{lt-ltb, le-ltb}
@@ -16,7 +17,7 @@ unfolding after_mask
 returns-then-die-p c =
     let a = c.args in
     let q = a.p - a.die in
-    let z = held-is w8 (entry a.b.now a.p) c.without_last-arg-1.given in
+    let z = held-is w8 (entry a.b.now a.p) (search rules) in
     let s = shl_one 32 q (omega arith) in
     let e = c.without_last-rest.ensures in (
       rw (s, e.0, z, lt-ltb a.die a.p c.if-die-p.true),
@@ -27,6 +28,6 @@ pub returns : goal.returns
 unfolding after_mask
 returns c =
     let a = c.args in
-    let z = held-is w8 (entry a.b.now a.p) c.without_last-arg-1.given in
+    let z = held-is w8 (entry a.b.now a.p) (search rules) in
     let e = c.without_last-rest.ensures in
     (rw (e.0, z, le-ltb a.die a.p (omega arith)), e.1)

@@ -1,3 +1,4 @@
+-- The loop's invariant: the mask has the points from p on.
 use Rattle.moves.proofs.BoardMasks.{few_o, Packed}
 use Rattle.moves.proofs.points.free_points.Given as goal
 

@@ -1,3 +1,4 @@
+-- The loop's invariant: the mask has the points from p on.
 use Rattle.moves.proofs.BoardMasks.{some_x, Packed}
 use Rattle.moves.proofs.points.x_points.Given as goal
 

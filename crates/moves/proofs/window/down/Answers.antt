@@ -1,4 +1,3 @@
--- The loop's invariant is what is left to be passed; a turn passes the highest point's end.
 use mathlib.Core.List.{List}
 use Prim.Native.Nat.{ℕ}
 use native.Mathlib.Omega.{arith}

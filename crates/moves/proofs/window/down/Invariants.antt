@@ -1,3 +1,4 @@
+-- The loop's invariant is what is left to be passed; a turn passes the highest point's end.
 use mathlib.Core.List.{List}
 use Prim.Native.Nat.{ℕ}
 use Rattle.ints.specs.Bits.{bit}

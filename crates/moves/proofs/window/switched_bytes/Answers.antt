@@ -1,4 +1,3 @@
--- The loop's invariant: the bytes from 25 down that are written are the image's.
 use native.Mathlib.Omega.{arith}
 use Rattle.moves.proofs.Images.{image-is}
 use Rattle.moves.proofs.window.switched_bytes.Goals as goal

@@ -1,3 +1,4 @@
+-- The loop's invariant: the bytes from 25 down that are written are the image's.
 use Prim.Native.Nat.{◌-◌}
 use Rattle.ints.proofs.Sums.{Filled}
 use Rattle.moves.proofs.Images.{byte_at}

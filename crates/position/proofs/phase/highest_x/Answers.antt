@@ -1,4 +1,4 @@
--- The loop's invariant: the highest entry with x is the highest below i.
+use borrow.Author.Rules.{rules}
 use mathlib.Core.Path.{◌≡◌, sym, ◌∙◌}
 use Prim.Native.Nat.{◌-◌}
 use native.Mathlib.Omega.{arith}
@@ -14,7 +14,7 @@ returns-then-b-i-gt0 c =
     let b = c.args.b.now in
     let i = c.loop-i.i in
     sym (c.loop-i.invariant.1
-    ∙ highest-here (xs b) i (omega arith) (above-yes w8 (entry b (i - 1)) c.t7-1.given c.if-b-i-gt0.true))
+    ∙ highest-here (xs b) i (omega arith) (above-yes w8 (entry b (i - 1)) (search rules) c.if-b-i-gt0.true))
 
 pub loop-i-preserved : goal.loop-i-preserved
 loop-i-preserved c =
@@ -22,7 +22,7 @@ loop-i-preserved c =
     let i = c.loop-i.i in (
       omega arith,
       c.loop-i.invariant.1
-          ∙ highest-less (xs b) i (omega arith) (above-no w8 (entry b (i - 1)) c.t7-1.given c.if-b-i-gt0.false),
+          ∙ highest-less (xs b) i (omega arith) (above-no w8 (entry b (i - 1)) (search rules) c.if-b-i-gt0.false),
     )
 
 pub returns : goal.returns

@@ -1,3 +1,4 @@
+-- The loop's invariant: the highest entry with x is the highest below i.
 use mathlib.Core.Path.{◌≡◌}
 use Prim.Native.Nat.{◌≤◌}
 use Rattle.position.specs.Board.{xs}

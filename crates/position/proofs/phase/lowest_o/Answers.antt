@@ -1,4 +1,4 @@
--- The loop's invariant: the lowest entry with o is the lowest from i on.
+use borrow.Author.Rules.{rules}
 use mathlib.Core.Path.{◌≡◌, sym, ◌∙◌}
 use native.Mathlib.Omega.{arith}
 use mir.Syntax.{w8}
@@ -13,7 +13,7 @@ returns-then-b-i-lt0 c =
     let b = c.args.b.now in
     let i = c.loop-i.i in
     sym (c.loop-i.invariant.1
-    ∙ lowest-here (os b) i 26 (omega arith) (below-yes w8 (entry b i) c.t6-1.given c.if-b-i-lt0.true))
+    ∙ lowest-here (os b) i 26 (omega arith) (below-yes w8 (entry b i) (search rules) c.if-b-i-lt0.true))
 
 pub loop-i-preserved : goal.loop-i-preserved
 loop-i-preserved c =
@@ -21,7 +21,7 @@ loop-i-preserved c =
     let i = c.loop-i.i in (
       omega arith,
       c.loop-i.invariant.1
-          ∙ lowest-more (os b) i 26 (omega arith) (below-no w8 (entry b i) c.t6-1.given c.if-b-i-lt0.false),
+          ∙ lowest-more (os b) i 26 (omega arith) (below-no w8 (entry b i) (search rules) c.if-b-i-lt0.false),
     )
 
 pub returns : goal.returns

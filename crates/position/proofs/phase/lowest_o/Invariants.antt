@@ -1,3 +1,4 @@
+-- The loop's invariant: the lowest entry with o is the lowest from i on.
 use mathlib.Core.Path.{◌≡◌}
 use Prim.Native.Nat.{◌-◌, ◌≤◌}
 use Rattle.position.specs.Board.{os}
