@@ -9,7 +9,12 @@ use borrow.Author.Tests.{lt-ltb, le-ltb, eq-eqb, ne_eqb, ltb-true, ltb-false}
 use lib.Dec.{ltb}
 use lib.IntN.{ℤ}
 use lib.ListN.{length}
+use Rattle.std.specs.Prelude.{Result, Ok, Err}
+use Rattle.std.specs.Result.{is_ok, is_err}
 use Rattle.ints.specs.Answer.{Answer, value, refused}
+use Rattle.ints.specs.Refusals.{number, refusal_in}
+use Rattle.ints.specs.declared.refusal.Refusal.{Refusal}
+use Rattle.ints.proofs.Refusals.{number-pos}
 use Rattle.ints.proofs.Tests.{by_cond}
 use Rattle.dice.proofs.TwoDice.{test-die}
 use Rattle.position.specs.Board.{refusal_of, switched}
@@ -20,12 +25,21 @@ use Rattle.rules.proofs.Exact.{accepted-exact}
 use Rattle.rules.proofs.Lists.{among-is}
 use Rattle.moves.specs.Answers.{CanPlay, play_refusal, ends_count}
 use Rattle.moves.proofs.Entries.{count-is}
-use Rattle.end_number.specs.Number.{place, number_answer}
+use Rattle.end_number.specs.Number.{place, number_told, number_answer}
 use Rattle.end_number.proofs.Place.{place_in, in_place, number-switched}
 use Rattle.bg_move.specs.declared.Steps.{Steps}
-use Rattle.bg_move.specs.declared.Recovered.{Recovered}
 use Rattle.bg_move.specs.Steps.{steps_of}
-use Rattle.bg_move.specs.Answers.{recover_refusal, recovered, steps_value, recovered_answer}
+use Rattle.bg_move.specs.Answers.{recover_refusal, recovered, steps_value, recovered_told, recovered_answer}
+
+-- ---- a test of an answer
+
+pub err-refused : {A : Type 0} (r : Result A Refusal) → is_err r ≡ true → 0 < refusal_in r
+err-refused (Ok a) h = cc
+err-refused (Err why) h = number-pos why
+
+pub unrefused : {A : Type 0} (r : Result A Refusal) → is_err r ≡ false → refusal_in r ≡ 0
+unrefused (Ok a) h = refl
+unrefused (Err why) h = cc
 
 -- ---- whether a board told from the mover's side is an end
 
@@ -62,8 +76,7 @@ module _ (n : ℕ) (b : List ℤ) (d1 d2 : ℕ) (p : CanPlay n b d1 d2) (e : Lis
     unfolding number_answer
     asked z = rw (le-ltb 0 (play_refusal n b d1 d2) (omega arith))
 
-    -- it is one where the other side's view of it has a number
-    pub number-end : play_refusal n b d1 d2 ≡ 0 → (k : ℕ) → value k ≡ number_answer n b d1 d2 (switched e) → true ≡ among e (ends_of b d1 d2)
+    number-end : play_refusal n b d1 d2 ≡ 0 → (k : ℕ) → value k ≡ number_answer n b d1 d2 (switched e) → true ≡ among e (ends_of b d1 d2)
     number-end z k q =
         by_cond (ltb (place (switched e) (switched_ends_of b d1 d2)) (ends_count b d1 d2)) (value (place (switched e) (switched_ends_of b d1 d2))) (refused 12 0)
         (λ a. value k ≡ a → true ≡ among e (ends_of b d1 d2))
@@ -71,13 +84,18 @@ module _ (n : ℕ) (b : List ℤ) (d1 d2 : ℕ) (p : CanPlay n b d1 d2) (e : Lis
         (λ t r. let y : ◌≡◌ {A = ℕ} 0 1 = cc in absurd (omega arith))
         (q ∙ asked z)
 
-    pub refused_end : play_refusal n b d1 d2 ≡ 0 → (k : ℕ) → refused k 0 ≡ number_answer n b d1 d2 (switched e) → false ≡ among e (ends_of b d1 d2)
+    refused_end : play_refusal n b d1 d2 ≡ 0 → (k : ℕ) → refused k 0 ≡ number_answer n b d1 d2 (switched e) → false ≡ among e (ends_of b d1 d2)
     refused_end z k q =
         by_cond (ltb (place (switched e) (switched_ends_of b d1 d2)) (ends_count b d1 d2)) (value (place (switched e) (switched_ends_of b d1 d2))) (refused 12 0)
         (λ a. refused k 0 ≡ a → false ≡ among e (ends_of b d1 d2))
         (λ t r. let y : ◌≡◌ {A = ℕ} 0 1 = cc in absurd (omega arith))
         (λ t r. unnumbered (ltb-false (place (switched e) (switched_ends_of b d1 d2)) (ends_count b d1 d2) t))
         (q ∙ asked z)
+
+    -- it is one where the other side's view of it has a number
+    pub numbered-end : play_refusal n b d1 d2 ≡ 0 → (r : Result ℕ Refusal) → number_told r ≡ number_answer n b d1 d2 (switched e) → is_ok r ≡ among e (ends_of b d1 d2)
+    numbered-end z (Ok k) q = number-end z k q
+    numbered-end z (Err r) q = refused_end z (number r) q
 
 -- ---- the answer
 
@@ -96,15 +114,14 @@ module _ (n : ℕ) (b : List ℤ) (d1 d2 : ℕ) (e : List ℤ) where
     recover-0 h = rw (le-ltb 0 (play_refusal n b d1 d2) (omega arith), h)
 
   -- the refusal's number and no steps
-  pub refused-answer : (r : Recovered) (k : ℕ) → 0 < k → k ≡ recover_refusal n b d1 d2 e → r.refused ≡ k → r.steps ≡ steps_value []
-      → r ≡ recovered_answer n b d1 d2 e
+  pub refused-answer : (r : Refusal) → number r ≡ recover_refusal n b d1 d2 e → recovered_told (Err r) ≡ recovered_answer n b d1 d2 e
   unfolding recovered_answer recovered
-  refused-answer r k h q u v =
-      let m = recover_refusal n b d1 d2 e in
-      rw (ne_eqb m 0 (λ z. omega arith)) (λ i. record { refused = (u ∙ q) i; steps = v i })
+  refused-answer r q =
+      let h = number-pos r in
+      rw (ne_eqb (recover_refusal n b d1 d2 e) 0 (λ z. omega arith)) (λ i. record { refused = q i; steps = steps_value [] })
 
   -- 0 and the steps
-  pub made-answer : (s : Steps) → 0 ≡ recover_refusal n b d1 d2 e → s ≡ steps_value (steps_of b d1 d2 e) → record { refused = 0; steps = s } ≡ recovered_answer n b d1 d2 e
+  pub made-answer : (s : Steps) → 0 ≡ recover_refusal n b d1 d2 e → s ≡ steps_value (steps_of b d1 d2 e) → recovered_told (Ok s) ≡ recovered_answer n b d1 d2 e
   unfolding recovered_answer recovered
   made-answer s q v =
       let m = recover_refusal n b d1 d2 e in

@@ -1,94 +1,61 @@
 -- The choice of the steps of a mixed roll, as the code's tests go.
 -- Assumes nothing.
 use mathlib.Core.Path.{◌≡◌}
-use mathlib.Core.Bool.{true, false}
+use mathlib.Core.Bool.{Bool, cond}
 use mathlib.Core.List.{List, [], ◌∷◌}
 use Prim.Native.Nat.{ℕ, ◌-◌}
+use native.Mathlib.Omega.{arith}
 use borrow.Author.Tests.{eq-eqb, ne_eqb}
 use lib.IntN.{ℤ}
-use Rattle.position.specs.Step.{can_step, stepped}
+use lib.Pointwise.{pointwise, pointwise_decides}
+use Rattle.std.specs.Prelude.{None, Some}
+use Rattle.std.specs.Ordering.{int_eq}
+use Rattle.std.proofs.lemmas.Bool.Decides.{same_from_decides, Decides-int_eq}
 use Rattle.rules.specs.Ends.{same_board}
-use Rattle.bg_move.specs.Steps.{lost, lost_next, leads, leads_both, told, two, one_checker, two_checkers, mixed_steps}
+use Rattle.rules.proofs.Lists.{same_board-is, same_board-self}
+use Rattle.bg_move.specs.declared.Step.{Step}
+use Rattle.bg_move.proofs.Losses.{some-point, none-point}
+use Rattle.bg_move.specs.Steps.{lost, lost_next, point, leads, leads_both, told, two, one_checker, two_checkers, mixed_steps}
 
-module _ (b : List ℤ) (p d : ℕ) (e : List ℤ) where
-  pub leads-made : can_step b p d ≡ true → same_board (stepped b p d) e ≡ leads b p d e
-  unfolding leads
-  leads-made h = rw h
+-- `==` of boards
+pub equal-boards : (b e : List ℤ) → pointwise int_eq b e ≡ same_board b e
+equal-boards b e =
+    same_from_decides (pointwise int_eq b e) (same_board b e) (pointwise_decides Decides-int_eq b e)
+    (same_board-is b e, λ q. rw (← q) (same_board-self b))
 
-  pub leads-not : can_step b p d ≡ false → false ≡ leads b p d e
-  unfolding leads
-  leads-not h = rw h
+-- the steps of the first of these that passes a test, else r
+abbrev pub first_of : {A : Type 0} → (A → Bool) → (A → List Step) → List Step → List A → List Step
+first_of test made r [] = r
+first_of test made r (m ∷ ms) = cond (test m) (made m) (first_of test made r ms)
 
-module _ (b : List ℤ) (p d q c : ℕ) (e : List ℤ) where
-  pub both-made : can_step b p d ≡ true → leads (stepped b p d) q c e ≡ leads_both b p d q c e
-  unfolding leads_both
-  both-made h = rw h
+-- one checker's steps: by both dice in one order or the other, or by one of them
+module _ (b e : List ℤ) (f : ℕ) where
+  abbrev pub both_from : List Step → List (ℕ × ℕ) → List Step
+  both_from = first_of (λ m. leads_both b f m.0 (f - m.0) m.1 e) (λ m. two f m.0 (f - m.0) m.1)
 
-  pub both-not : can_step b p d ≡ false → false ≡ leads_both b p d q c e
-  unfolding leads_both
-  both-not h = rw h
+  abbrev pub one_from : List ℕ → List Step
+  one_from = first_of (λ d. leads b f d e) (λ d. told f d ∷ []) []
 
--- one checker, from f
-module _ (b e : List ℤ) (f s l : ℕ) where
-  pub one-small-first : leads_both b f s (f - s) l e ≡ true → two f s (f - s) l ≡ one_checker b e f s l
-  unfolding one_checker
-  one-small-first h = rw h
+-- two checkers' steps: a point and a die, and then another point and die
+abbrev pub pair_of : List ℤ → List ℤ → List (ℕ × ℕ × ℕ × ℕ) → List Step
+pair_of b e = first_of (λ m. leads_both b m.0 m.1 m.2 m.3 e) (λ m. two m.0 m.1 m.2 m.3) []
 
-  module _ (n₁ : leads_both b f s (f - s) l e ≡ false) where
-    pub one-big-first : leads_both b f l (f - l) s e ≡ true → two f l (f - l) s ≡ one_checker b e f s l
-    unfolding one_checker
-    one-big-first h = rw (n₁, h)
-
-    module _ (n₂ : leads_both b f l (f - l) s e ≡ false) where
-      pub one-small : leads b f s e ≡ true → told f s ∷ [] ≡ one_checker b e f s l
-      unfolding one_checker
-      one-small h = rw (n₁, n₂, h)
-
-      module _ (n₃ : leads b f s e ≡ false) where
-        pub one-big : leads b f l e ≡ true → told f l ∷ [] ≡ one_checker b e f s l
-        unfolding one_checker
-        one-big h = rw (n₁, n₂, n₃, h)
-
-        pub one_none : leads b f l e ≡ false → [] ≡ one_checker b e f s l
-        unfolding one_checker
-        one_none h = rw (n₁, n₂, n₃, h)
-
--- two checkers, from p and q
-module _ (b e : List ℤ) (p q s l : ℕ) where
-  pub two-first : leads_both b p l q s e ≡ true → two p l q s ≡ two_checkers b e p q s l
-  unfolding two_checkers
-  two-first h = rw h
-
-  module _ (n₁ : leads_both b p l q s e ≡ false) where
-    pub two-second : leads_both b p s q l e ≡ true → two p s q l ≡ two_checkers b e p q s l
-    unfolding two_checkers
-    two-second h = rw (n₁, h)
-
-    module _ (n₂ : leads_both b p s q l e ≡ false) where
-      pub two-third : leads_both b q l p s e ≡ true → two q l p s ≡ two_checkers b e p q s l
-      unfolding two_checkers
-      two-third h = rw (n₁, n₂, h)
-
-      module _ (n₃ : leads_both b q l p s e ≡ false) where
-        pub two-fourth : leads_both b q s p l e ≡ true → two q s p l ≡ two_checkers b e p q s l
-        unfolding two_checkers
-        two-fourth h = rw (n₁, n₂, n₃, h)
-
-        pub two_none : leads_both b q s p l e ≡ false → [] ≡ two_checkers b e p q s l
-        unfolding two_checkers
-        two_none h = rw (n₁, n₂, n₃, h)
-
--- the whole: f is the point that lost the first checker, g the one that lost the second
-module _ (b e : List ℤ) (s l f : ℕ) (first : f ≡ lost b e 26) where
-  pub mixed-none : f ≡ 0 → [] ≡ mixed_steps b e s l
+-- the whole: by the points that lost the first checker and the second
+module _ (b e : List ℤ) (s l : ℕ) where
+  pub mixed-none : None ≡ point (lost b e 26) → [] ≡ mixed_steps b e s l
   unfolding mixed_steps
-  mixed-none h = rw (← first, eq-eqb f 0 h)
+  mixed-none h = rw (eq-eqb (lost b e 26) 0 (none-point (lost b e 26) h))
 
-  module _ (some : f ≡ 0 → ⊥) (g : ℕ) (second : g ≡ lost_next b e f) where
-    pub mixed_one : g ≡ 0 → one_checker b e f s l ≡ mixed_steps b e s l
+  module _ (f : ℕ) (first : Some f ≡ point (lost b e 26)) where
+    pub mixed_one : None ≡ point (lost_next b e f) → one_checker b e f s l ≡ mixed_steps b e s l
     unfolding mixed_steps
-    mixed_one h = rw (← first, ne_eqb f 0 some, ← second, eq-eqb g 0 h)
+    mixed_one h =
+        let p = some-point (lost b e 26) f first in
+        rw (← p.1, ne_eqb f 0 (λ z. omega arith), eq-eqb (lost_next b e f) 0 (none-point (lost_next b e f) h))
 
-    pub mixed_two : (g ≡ 0 → ⊥) → two_checkers b e f g s l ≡ mixed_steps b e s l
+    pub mixed_two : (g : ℕ) → Some g ≡ point (lost_next b e f) → two_checkers b e f g s l ≡ mixed_steps b e s l
     unfolding mixed_steps
-    mixed_two h = rw (← first, ne_eqb f 0 some, ← second, ne_eqb g 0 h)
+    mixed_two g second =
+        let p = some-point (lost b e 26) f first in
+        let q = some-point (lost_next b e f) g second in
+        rw (← p.1, ne_eqb f 0 (λ z. omega arith), ← q.1, ne_eqb g 0 (λ z. omega arith))

@@ -1,6 +1,6 @@
 -- Which points lost a checker of x from one board to another.
 -- Assumes nothing.
-use mathlib.Core.Path.{◌≡◌, refl, ap}
+use mathlib.Core.Path.{◌≡◌, refl, sym, ap}
 use mathlib.Core.Logic.{⊎_elim}
 use mathlib.Core.List.{List}
 use Prim.Native.Nat.{ℕ, zero, suc, ◌+◌, ◌-◌, ◌≤◌, ◌<◌}
@@ -13,7 +13,8 @@ use Rattle.position.specs.Board.{xs}
 use Rattle.position.specs.Phase.{highest}
 use Rattle.position.proofs.Phases.{highest-here, highest-less}
 use Rattle.rules.proofs.Marks.{Mark}
-use Rattle.bg_move.specs.Steps.{lost, lost_next}
+use Rattle.std.specs.Prelude.{None, Some}
+use Rattle.bg_move.specs.Steps.{lost, lost_next, point}
 
 -- ---- the highest number at which a function is not 0
 
@@ -61,7 +62,32 @@ module _ (b e : List ℤ) where
 pub lost-same : (b e : List ℤ) → e ≡ b → lost b e 26 ≡ 0
 lost-same b e q = rw q (lost-none b b 26 (λ i l. omega arith))
 
+-- ---- a point as the code tells it
+
+pub point-some : (n p : ℕ) → 0 < p → n ≡ p → Some p ≡ point n
+point-some zero p h e = absurd (omega arith)
+point-some (suc n) p h e = ap Some (sym e)
+
+pub point-none : (n : ℕ) → n ≡ 0 → None ≡ point n
+point-none zero e = refl
+point-none (suc n) e = absurd (omega arith)
+
+pub some-point : (n p : ℕ) → Some p ≡ point n → (0 < p) × (p ≡ n)
+some-point zero p e = cc
+some-point (suc n) p e = let q : p ≡ suc n = cc in (omega arith, q)
+
+pub none-point : (n : ℕ) → None ≡ point n → n ≡ 0
+none-point zero e = refl
+none-point (suc n) e = cc
+
 -- ---- as the search from above goes
+
+-- 0 alone is left: none
+pub lost-low : (b e : List ℤ) (i : ℕ) → i ≤ 1 → lost b e i ≡ 0
+unfolding lost highest
+lost-low b e zero h = refl
+lost-low b e (suc zero) h = by_cond (ltb 0 (xs b 0 - xs e 0)) 0 0 (λ k. k ≡ 0) (λ t. refl) (λ t. refl)
+lost-low b e (suc (suc i)) h = absurd (omega arith)
 
 module _ (b e : List ℤ) (i : ℕ) where
   pub lost-here : 0 < i → xs e (i - 1) < xs b (i - 1) → lost b e i ≡ i - 1
@@ -71,18 +97,3 @@ module _ (b e : List ℤ) (i : ℕ) where
   pub lost-less : 0 < i → xs b (i - 1) ≤ xs e (i - 1) → lost b e i ≡ lost b e (i - 1)
   unfolding lost
   lost-less h p = highest-less (λ k. xs b k - xs e k) i h (omega arith)
-
-highest-most : (f : ℕ → ℕ) (n m : ℕ) → n ≤ suc m → highest f n ≤ m
-unfolding highest
-highest-most f zero m h = omega arith
-highest-most f (suc n) m h =
-    by_cond (ltb 0 (f n)) n (highest f n) (λ k. k ≤ m) (λ q. omega arith) (λ q. highest-most f n m (omega arith))
-
--- what is found below a number stands there
-pub lost-most : (b e : List ℤ) (n m : ℕ) → n ≤ suc m → lost b e n ≤ m
-unfolding lost
-lost-most b e n m h = highest-most (λ k. xs b k - xs e k) n m h
-
-pub next-most : (b e : List ℤ) (f m : ℕ) → f ≤ m → lost_next b e f ≤ m
-unfolding lost_next
-next-most b e f m h = by_cond (ltb 1 (xs b f - xs e f)) f (lost b e f) (λ k. k ≤ m) (λ q. h) (λ q. lost-most b e f m (omega arith))

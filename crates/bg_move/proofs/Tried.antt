@@ -5,7 +5,7 @@ use Prim.Native.Nat.{ℕ}
 use lib.IntN.{ℤ, pos, negsuc}
 use lib.ListN.{set, replicate}
 use Rattle.ints.specs.Answer.{refused}
-use Rattle.ints.specs.Sums.{sum_to, values, all}
+use Rattle.ints.specs.Sums.{sum_to, all}
 use Rattle.dice.specs.Dice.{is_die}
 use Rattle.position.specs.Board.{checkers, refusal_of, start_refusal}
 use Rattle.position.specs.Step.{clear_from, off_from, can_step, lifted, landed, stepped}
@@ -42,12 +42,12 @@ abbrev shut_out : List ℤ
 shut_out = set (set (board 25 1) 19 (negsuc 1)) 20 (negsuc 1)
 
 nothing-played : recovered_answer checkers shut_out 6 5 shut_out ≡ record { refused = 0; steps = steps_value [] }
-unfolding recovered_answer steps_value recover_refusal recovered play_refusal start_refusal refusal_of is_die sum_to values ends_of steps_of lost lost_next leads leads_both one_checker two_checkers mixed_steps double_steps highest can_step stepped clear_from off_from lifted landed all
+unfolding recovered_answer steps_value recover_refusal recovered play_refusal start_refusal refusal_of is_die sum_to ends_of steps_of lost lost_next leads leads_both one_checker two_checkers mixed_steps double_steps highest can_step stepped clear_from off_from lifted landed all
 nothing-played = refl
 
 -- where something can be played it is none
 not-an-end : recover_refusal checkers (board 13 1) 2 1 (board 13 1) ≡ 12
-unfolding recover_refusal recovered play_refusal start_refusal refusal_of is_die sum_to values ends_of steps_of lost lost_next leads leads_both one_checker two_checkers mixed_steps double_steps highest can_step stepped clear_from off_from lifted landed all
+unfolding recover_refusal recovered play_refusal start_refusal refusal_of is_die sum_to ends_of steps_of lost lost_next leads leads_both one_checker two_checkers mixed_steps double_steps highest can_step stepped clear_from off_from lifted landed all
 not-an-end = refl
 
 -- a row of three places for two steps, and a row of one
@@ -55,9 +55,9 @@ abbrev row : List Step
 row = told 9 0 ∷ told 9 0 ∷ told 9 0 ∷ []
 
 third-stays : row_after checkers (board 5 1) 6 1 (board 5 0) row ≡ told 5 1 ∷ told 4 6 ∷ told 9 0 ∷ []
-unfolding row_after recover_refusal recovered play_refusal start_refusal refusal_of is_die sum_to values ends_of steps_of lost lost_next leads leads_both one_checker two_checkers mixed_steps double_steps highest can_step stepped clear_from off_from lifted landed all
+unfolding row_after recover_refusal recovered play_refusal start_refusal refusal_of is_die sum_to ends_of steps_of lost lost_next leads leads_both one_checker two_checkers mixed_steps double_steps highest can_step stepped clear_from off_from lifted landed all
 third-stays = refl
 
 one_place : row_answer checkers (board 5 1) 6 1 (board 5 0) 1 ≡ refused 27 0
-unfolding row_answer recover_refusal recovered play_refusal start_refusal refusal_of is_die sum_to values ends_of steps_of lost lost_next leads leads_both one_checker two_checkers mixed_steps double_steps highest can_step stepped clear_from off_from lifted landed all
+unfolding row_answer recover_refusal recovered play_refusal start_refusal refusal_of is_die sum_to ends_of steps_of lost lost_next leads leads_both one_checker two_checkers mixed_steps double_steps highest can_step stepped clear_from off_from lifted landed all
 one_place = refl

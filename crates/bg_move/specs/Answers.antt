@@ -1,12 +1,12 @@
 -- What recovery answers (document 01, "Recovery", "Refusal numbers").
-use Rattle.std.specs.Prelude.{cond, List, [], ◌++◌, map, ℕ, ltb, eqb, ℤ, length, get_or, drop}
+use Rattle.std.specs.Prelude.{cond, Result, Ok, Err, List, [], ◌∷◌, ◌++◌, ℕ, ltb, eqb, ℤ, length, get_or, drop}
 use Rattle.ints.specs.Answer.{Answer, value, refused}
-use Rattle.ints.specs.Sums.{values}
+use Rattle.ints.specs.Refusals.{number}
+use Rattle.ints.specs.declared.refusal.Refusal.{Refusal}
 use Rattle.rules.specs.Ends.{ends_of, among}
 use Rattle.moves.specs.Answers.{play_refusal}
 use Rattle.bg_move.specs.declared.Step.{Step}
 use Rattle.bg_move.specs.declared.Steps.{Steps}
-use Rattle.bg_move.specs.declared.Recovered.{Recovered}
 use Rattle.bg_move.specs.Steps.{steps_of}
 
 -- "Refusal numbers" 12: the refusals of a play, then 12 where the second board is no end of the roll; 0 for none
@@ -18,21 +18,35 @@ recover_refusal n b d1 d2 e =
 unfoldable pub recovered : ℕ → List ℤ → ℕ → ℕ → List ℤ → List Step
 recovered n b d1 d2 e = cond (eqb (recover_refusal n b d1 d2 e) 0) (steps_of b d1 d2 e) []
 
--- four numbers, zeros after those of the list
-abbrev pub four : List ℕ → List ℕ
-four l = values (λ i. get_or l i 0) 0 4
+-- what stands in a place without a step
+abbrev pub none : Step
+none = record { from = 0; to = 0 }
+
+-- the four places: the steps of a list, then zeros
+abbrev pub places : List Step → List Step
+places ts = get_or ts 0 none ∷ get_or ts 1 none ∷ get_or ts 2 none ∷ get_or ts 3 none ∷ []
 
 -- up to four steps as one value, zeros after them
 unfoldable pub steps_value : List Step → Steps
-steps_value ts = record { count = length ts; from = four (map (λ t. t.from) ts); to = four (map (λ t. t.to) ts) }
+steps_value ts = record { count = length ts; steps = places ts }
+
+-- a refusal's number, 0 for none, and the steps
+pub record Recovered : Type 0 where
+  pub refused : ℕ
+  pub steps : Steps
+
+-- what each case of an answer says
+abbrev pub recovered_told : Result Steps Refusal → Recovered
+recovered_told (Ok s) = record { refused = 0; steps = s }
+recovered_told (Err r) = record { refused = number r; steps = steps_value [] }
 
 -- "Recovery": the refusal's number and no steps, or 0 and the steps
 unfoldable pub recovered_answer : ℕ → List ℤ → ℕ → ℕ → List ℤ → Recovered
 recovered_answer n b d1 d2 e = record { refused = recover_refusal n b d1 d2 e; steps = steps_value (recovered n b d1 d2 e) }
 
 -- step i of those answered, zeros past the fourth place
-abbrev pub step_at : Recovered → ℕ → Step
-step_at r i = record { from = get_or r.steps.from i 0; to = get_or r.steps.to i 0 }
+abbrev pub step_at : Steps → ℕ → Step
+step_at s i = get_or s.steps i none
 
 -- "Refusal numbers" 27: the refusal, 27 where the row has fewer places than steps, or the number of steps
 unfoldable pub row_answer : ℕ → List ℤ → ℕ → ℕ → List ℤ → ℕ → Answer

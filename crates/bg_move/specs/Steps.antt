@@ -1,5 +1,5 @@
 -- The steps behind an end (document 01, "Recovery"): the Rust's choice of them, and what they must be whatever the choice.
-use Rattle.std.specs.Prelude.{◌≡◌, Bool, true, cond, ◌&&◌, List, [], ◌∷◌, ℕ, zero, suc, ◌-◌, min, max, ltb, eqb, ℤ}
+use Rattle.std.specs.Prelude.{◌≡◌, Bool, true, cond, ◌&&◌, Option, None, Some, List, [], ◌∷◌, ℕ, zero, suc, ◌-◌, min, max, ltb, eqb, ℤ}
 use Rattle.position.specs.Board.{xs}
 use Rattle.position.specs.Step.{can_step, stepped}
 use Rattle.position.specs.Phase.{highest}
@@ -27,6 +27,11 @@ lost b e n = highest (λ i. xs b i - xs e i) n
 -- the point that lost the second one, where f lost the first: f too, or the highest below it; 0 where none did
 unfoldable pub lost_next : List ℤ → List ℤ → ℕ → ℕ
 lost_next b e f = cond (ltb 1 (xs b f - xs e f)) f (lost b e f)
+
+-- a point as the code tells it: 0 is none
+abbrev pub point : ℕ → Option ℕ
+point zero = None
+point (suc p) = Some (suc p)
 
 -- whether a legal step from p by d leads to e
 unfoldable pub leads : List ℤ → ℕ → ℕ → List ℤ → Bool

@@ -4,7 +4,7 @@ ghost use Rattle.ints.specs.Signed.{Small};
 ghost use Rattle.bg_move.specs.Steps.{leads, leads_both, one_checker, two_checkers, mixed_steps};
 ghost use Rattle.bg_move.specs.Answers.{steps_value};
 
-use crate::Steps;
+use crate::{Step, Steps};
 
 // The steps from b to e, for a smaller and a larger die: of no checker, of one or of two, by the points that lost one. The entries must
 // leave room for two steps.
@@ -13,15 +13,13 @@ pub fn new_mixed(b: [i8; 26], e: [i8; 26], small: usize, big: usize) -> Steps
     requires small { Small 122 b }
     ensures { result ≡ steps_value (mixed_steps b e small big) }
 {
-    let first = crate::lost(&b, &e, 26);
-    if first == 0 {
-        return crate::no_steps();
+    let Some(first) = crate::lost(&b, &e, 26) else {
+        return Steps::of(&[]);
+    };
+    match crate::lost_next(&b, &e, first) {
+        None => one_checker(b, e, first, small, big),
+        Some(second) => two_checkers(b, e, first, second, small, big),
     }
-    let second = crate::lost_next(&b, &e, first);
-    if second == 0 {
-        return one_checker(b, e, first, small, big);
-    }
-    two_checkers(b, e, first, second, small, big)
 }
 
 // One checker moved: twice, by the smaller die first if that leads to e; or once.
@@ -30,21 +28,18 @@ fn one_checker(b: [i8; 26], e: [i8; 26], from: usize, small: usize, big: usize) 
     requires small { Small 122 b }
     ensures { result ≡ steps_value (one_checker b e from small big) }
 {
-    let stop = crate::landing(from, small);
-    if can_move_both(b, from, small, stop, big, e) {
-        return crate::two_steps(from, small, stop, big);
+    for (die1, die2) in [(small, big), (big, small)] {
+        let stop = from.saturating_sub(die1);
+        if can_move_both(b, from, die1, stop, die2, e) {
+            return Steps::of(&[Step::by(from, die1), Step::by(stop, die2)]);
+        }
     }
-    let other_stop = crate::landing(from, big);
-    if can_move_both(b, from, big, other_stop, small, e) {
-        return crate::two_steps(from, big, other_stop, small);
+    for die in [small, big] {
+        if leads(b, from, die, e) {
+            return Steps::of(&[Step::by(from, die)]);
+        }
     }
-    if leads(b, from, small, e) {
-        return crate::one_step(from, small);
-    }
-    if leads(b, from, big, e) {
-        return crate::one_step(from, big);
-    }
-    crate::no_steps()
+    Steps::of(&[])
 }
 
 // Two checkers moved: the first of the four combinations that leads to e.
@@ -60,19 +55,18 @@ fn two_checkers(
     requires small { Small 122 b }
     ensures { result ≡ steps_value (two_checkers b e from1 from2 small big) }
 {
-    if can_move_both(b, from1, big, from2, small, e) {
-        return crate::two_steps(from1, big, from2, small);
+    let combinations = [
+        (from1, big, from2, small),
+        (from1, small, from2, big),
+        (from2, big, from1, small),
+        (from2, small, from1, big),
+    ];
+    for (p, die1, q, die2) in combinations {
+        if can_move_both(b, p, die1, q, die2, e) {
+            return Steps::of(&[Step::by(p, die1), Step::by(q, die2)]);
+        }
     }
-    if can_move_both(b, from1, small, from2, big, e) {
-        return crate::two_steps(from1, small, from2, big);
-    }
-    if can_move_both(b, from2, big, from1, small, e) {
-        return crate::two_steps(from2, big, from1, small);
-    }
-    if can_move_both(b, from2, small, from1, big, e) {
-        return crate::two_steps(from2, small, from1, big);
-    }
-    crate::no_steps()
+    Steps::of(&[])
 }
 
 // Whether a legal step and then another lead to e.
@@ -88,15 +82,13 @@ fn can_move_both(
     requires small { Small 122 b }
     ensures { result ≡ leads_both b from1 die1 from2 die2 e }
 {
-    if position::can_move(&b, from1, die1) {
-        return leads(
+    position::can_move(&b, from1, die1)
+        && leads(
             position::move_single_checker(b, from1, die1),
             from2,
             die2,
             e,
-        );
-    }
-    false
+        )
 }
 
 // Whether a legal step leads to e.
@@ -105,8 +97,5 @@ fn leads(b: [i8; 26], from: usize, die: usize, e: [i8; 26]) -> bool
     requires small { Small 124 b }
     ensures { result ≡ leads b from die e }
 {
-    if position::can_move(&b, from, die) {
-        return crate::same_board(position::move_single_checker(b, from, die), e);
-    }
-    false
+    position::can_move(&b, from, die) && position::move_single_checker(b, from, die) == e
 }

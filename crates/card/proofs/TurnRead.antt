@@ -1,35 +1,34 @@
--- How a turn's record is read, as the code's tests go.
+-- How a turn is played by its dice byte and the number of its end, as the code's cases go.
 -- Assumes nothing.
 use mathlib.Core.Path.{◌≡◌, refl, sym, ap, ◌∙◌, subst}
 use mathlib.Core.Bool.{Bool, true, false, cond}
 use mathlib.Core.List.{List, []}
-use Prim.Native.Nat.{ℕ, ◌/◌, ◌%◌, ◌≤◌, ◌<◌}
+use Prim.Native.Nat.{ℕ, ◌/◌, ◌%◌, ◌<◌}
 use native.Mathlib.Omega.{arith}
-use borrow.Author.Tests.{lt-ltb, le-ltb, ltb-true, eqb-true}
+use borrow.Author.Tests.{le-ltb, ltb-true, eqb-true}
 use lib.Dec.{ltb, eqb}
 use lib.IntN.{ℤ}
-use lib.ListN.{length, get_or}
+use lib.ListN.{get_or}
+use Rattle.std.specs.Prelude.{Result, Ok, Err}
+use Rattle.ints.specs.declared.refusal.Refusal.{Refusal}
+use Rattle.ints.specs.declared.refusal.Refusal.TheVariants.{NoSuchRoll}
 use Rattle.dice.specs.declared.Dice.{Dice}
-use Rattle.dice.specs.declared.Dice.TheVariants.{Double, Mixed, Refused}
+use Rattle.dice.specs.declared.MixedDice.{MixedDice}
+use Rattle.dice.specs.declared.Dice.TheVariants.{Double, Mixed}
 use Rattle.dice.specs.Rolls.{rolls}
 use Rattle.dice.specs.Dice.{is_die, is_byte_in, roll_of, dice_of_byte}
 use Rattle.dice.proofs.TwoDice.{test-die, range-die}
 use Rattle.dice.proofs.Bytes.{in_order}
 use Rattle.position.specs.Board.{Accepted}
-use Rattle.position.specs.Answers.{board_answer}
-use Rattle.position.specs.declared.BoardAnswer.{BoardAnswer}
+use Rattle.position.specs.Answers.{BoardAnswer, board_told, board_answer}
 use Rattle.rules.specs.Ends.{switched_ends_of}
 use Rattle.rules.proofs.Switched.{switched-end-accepted}
 use Rattle.moves.specs.Answers.{play_refusal, ends_count, end_refusal, end_answer}
 use Rattle.end_number.proofs.Place.{in_place, number-once}
-use Rattle.card.specs.Read.{marked, finished, end_number, turn_refusal, after_turn}
-use Rattle.card.specs.Replay.{Reached, played_refusal, Played, TurnRead}
+use Rattle.card.specs.Read.{finished}
+use Rattle.card.specs.Replay.{Reached, Played}
 use Rattle.card.proofs.Turns.{unfinished-test}
 use Rattle.card.proofs.Starts.{start-unrefused}
-
--- a refusal's answer
-pub refuse : {n refusal : ℕ} {b : List ℤ} {r : BoardAnswer} (k : ℕ) → 0 < k → r.refused ≡ k → k ≡ refusal → Reached n refusal b r
-refuse k h e s = record { number = e ∙ s; board = λ z. absurd (omega arith); ok = λ z. absurd (omega arith) }
 
 -- ---- a turn played
 
@@ -50,78 +49,57 @@ module _ (n : ℕ) (b : List ℤ) (a : Accepted n b) (f : finished b ≡ false) 
       switched-end-accepted n b d1 d2 a (test-die d1 one) (test-die d2 two) e (in_place e (switched_ends_of b d1 d2) (omega arith))
 
   -- the end with a number, as the generator answers it
-  end-reached : (k : ℕ) (r : BoardAnswer) → r ≡ end_answer n b d1 d2 k
+  end-reached : (k : ℕ) (r : Result (List ℤ) Refusal) → board_told r ≡ end_answer n b d1 d2 k
       → Reached n (cond (ltb k (ends_count b d1 d2)) 0 11) (get_or (switched_ends_of b d1 d2) k []) r
   unfolding end_answer board_answer
-  end-reached k r e = go (ltb k (ends_count b d1 d2)) refl
+  end-reached k (Err why) e = ap (λ (x : BoardAnswer). x.refused) e ∙ end_is k
+  end-reached k (Ok c) e =
+      let z : ◌≡◌ {A = ℕ} 0 (end_refusal n b d1 d2 k) = ap (λ (x : BoardAnswer). x.refused) e in
+      let counted = sym (end_is k) ∙ sym z in (
+        counted,
+        ap (λ (x : BoardAnswer). x.board) e ∙ rw (sym z) refl,
+        go (ltb k (ends_count b d1 d2)) refl counted,
+      )
     where
-      go : (t : Bool) → ltb k (ends_count b d1 d2) ≡ t → Reached n (cond t 0 11) (get_or (switched_ends_of b d1 d2) k []) r
-      go true h =
-          let z : end_refusal n b d1 d2 k ≡ 0 = end_is k ∙ ap (λ (t : Bool). cond t 0 11) h in
-          record {
-            number = ap (λ (x : BoardAnswer). x.refused) e ∙ z;
-            board = λ q. ap (λ (x : BoardAnswer). x.board) e ∙ rw z;
-            ok = λ q. listed-accepted k (ltb-true k (ends_count b d1 d2) h);
-          }
-      go false h =
-          refuse 11 (omega arith) (ap (λ (x : BoardAnswer). x.refused) e ∙ end_is k ∙ ap (λ (t : Bool). cond t 0 11) h) refl
+      go : (t : Bool) → ltb k (ends_count b d1 d2) ≡ t → ◌≡◌ {A = ℕ} (cond t 0 11) 0 → Accepted n (get_or (switched_ends_of b d1 d2) k [])
+      go true h q = listed-accepted k (ltb-true k (ends_count b d1 d2) h)
+      go false h q = absurd (omega arith)
 
 -- ---- the dice byte of a turn
 
 -- what each case of a dice byte's roll tells of the byte
 abbrev pub Holds : ℕ → Dice → Type 0
-Holds b (Double d) = (is_byte_in rolls b ≡ true) × (b / 16 ≡ d) × (b % 16 ≡ d)
-Holds b (Mixed m) = (is_byte_in rolls b ≡ true) × (b / 16 ≡ m.big) × (b % 16 ≡ m.small)
-Holds b (Refused n) = (is_byte_in rolls b ≡ false) × (n ≡ 26)
+Holds b (Double d) = (b / 16 ≡ d) × (b % 16 ≡ d)
+Holds b (Mixed m) = (b / 16 ≡ m.big) × (b % 16 ≡ m.small)
 
-byte-holds : (b : ℕ) → Holds b (dice_of_byte b)
+byte-holds : (b : ℕ) (d : Dice) → Ok d ≡ dice_of_byte b → (is_byte_in rolls b ≡ true) × Holds b d
 unfolding dice_of_byte roll_of
-byte-holds b = go (is_byte_in rolls b) (eqb (b / 16) (b % 16)) refl refl
+byte-holds b d = go (is_byte_in rolls b) (eqb (b / 16) (b % 16)) refl refl
   where
     go :
         (t q : Bool) → is_byte_in rolls b ≡ t → eqb (b / 16) (b % 16) ≡ q
-        → Holds b (cond t (cond q (Double (b / 16)) (Mixed (record { big = b / 16; small = b % 16 }))) (Refused 26))
-    go true true e f = (e, refl, sym (eqb-true (b / 16) (b % 16) f))
-    go true false e f = (e, refl, refl)
-    go false q e f = (e, refl)
+        → Ok d ≡ cond t (Ok (cond q (Double (b / 16)) (Mixed (record { big = b / 16; small = b % 16 })))) (Err NoSuchRoll)
+        → (is_byte_in rolls b ≡ true) × Holds b d
+    go true true e f g =
+        let h : d ≡ Double (b / 16) = cc in
+        (e, subst (Holds b) (sym h) (refl, sym (eqb-true (b / 16) (b % 16) f)))
+    go true false e f g = let h : d ≡ Mixed (record { big = b / 16; small = b % 16 }) = cc in (e, subst (Holds b) (sym h) (refl, refl))
+    go false q e f g = cc
 
--- the same of the case that a `match` on the roll finds
-pub held : (b : ℕ) {r s : Dice} → r ≡ dice_of_byte b → r ≡ s → Holds b s
-held b e f = subst (Holds b) (sym e ∙ f) (byte-holds b)
+module _ (n : ℕ) (b : List ℤ) (byte k : ℕ) (f : finished b ≡ false) (a : Accepted n b) (small : byte < 256) where
+  played-end : is_byte_in rolls byte ≡ true → (d1 d2 : ℕ) → byte / 16 ≡ d1 → byte % 16 ≡ d2
+      → (r : Result (List ℤ) Refusal) → board_told r ≡ end_answer n b d1 d2 k → Played n b byte k r
+  played-end t d1 d2 e1 e2 r e =
+      let o = in_order byte small t in
+      rw (f, t) (
+      end-reached n b a f (byte / 16) (byte % 16) (range-die (byte / 16) (omega arith) (omega arith)) (range-die (byte % 16) (omega arith) (omega arith))
+      k r (rw (e1, e2) e)
+      )
 
-module _ (n : ℕ) (b : List ℤ) (byte k : ℕ) where
-  pub played-finished : finished b ≡ true → 25 ≡ played_refusal b byte k
-  played-finished f = rw f
+  -- the two cases of the roll
+  pub played-double : {d : ℕ} → Ok (Double d) ≡ dice_of_byte byte → (r : Result (List ℤ) Refusal) → board_told r ≡ end_answer n b d d k → Played n b byte k r
+  played-double {d} e r = let h = byte-holds byte (Double d) e in played-end h.0 d d h.1.0 h.1.1 r
 
-  module _ (f : finished b ≡ false) where
-    pub played-no-dice : is_byte_in rolls byte ≡ false → 26 ≡ played_refusal b byte k
-    played-no-dice t = rw (f, t)
-
-    pub played-end : Accepted n b → byte < 256 → is_byte_in rolls byte ≡ true → (d1 d2 : ℕ) → byte / 16 ≡ d1 → byte % 16 ≡ d2
-        → (r : BoardAnswer) → r ≡ end_answer n b d1 d2 k → Played n b byte k r
-    played-end a h t d1 d2 e1 e2 r e =
-        let o = in_order byte h t in
-        rw (f, t) (
-        end-reached n b a f (byte / 16) (byte % 16) (range-die (byte / 16) (omega arith) (omega arith)) (range-die (byte % 16) (omega arith) (omega arith))
-        k r (rw (e1, e2) e)
-        )
-
--- ---- a turn's record
-
-module _ (b : List ℤ) (r : List ℕ) where
-  pub turn-short : length r < 5 → 23 ≡ turn_refusal b r
-  unfolding turn_refusal
-  turn-short h = rw (lt-ltb (length r) 5 h)
-
-  module _ (h : 5 ≤ length r) where
-    pub turn-unmarked : marked 0x54 0x55 r ≡ false → 24 ≡ turn_refusal b r
-    unfolding turn_refusal
-    turn-unmarked m = rw (le-ltb (length r) 5 h, m)
-
-    turn-whole : marked 0x54 0x55 r ≡ true → played_refusal b (get_or r 2 0) (end_number r) ≡ turn_refusal b r
-    unfolding turn_refusal
-    turn-whole m = rw (le-ltb (length r) 5 h, m)
-
-    pub turn-played : (n : ℕ) (x : BoardAnswer) → marked 0x54 0x55 r ≡ true → Played n b (get_or r 2 0) (end_number r) x → TurnRead n b r x
-    unfolding after_turn
-    turn-played n x m p = record { number = p.number ∙ turn-whole m; board = p.board; ok = p.ok }
+  pub played-mixed : {d : MixedDice} → Ok (Mixed d) ≡ dice_of_byte byte → (r : Result (List ℤ) Refusal) → board_told r ≡ end_answer n b d.big d.small k
+      → Played n b byte k r
+  played-mixed {d} e r = let h = byte-holds byte (Mixed d) e in played-end h.0 d.big d.small h.1.0 h.1.1 r

@@ -1,28 +1,37 @@
 -- What the card's entries answer, and what they leave in the lent buffer (document 01, "Game card", "Refusal numbers").
-use Rattle.std.specs.Prelude.{cond, ◌&&◌, List, ◌++◌, ℕ, ◌+◌, min, max, ltb, ℤ, length, take, drop}
+use Rattle.std.specs.Prelude.{cond, ◌&&◌, List, ◌++◌, ℕ, ◌+◌, min, max, ltb, ℤ, length, take, drop, Result, Ok, Err}
 use Rattle.ints.specs.Answer.{Answer, value, refused}
+use Rattle.ints.specs.Refusals.{number, told_with}
+use Rattle.ints.specs.declared.refusal.Refused.{Refused}
 use Rattle.dice.specs.Dice.{is_die}
 use Rattle.position.specs.Board.{start_refusal}
 use Rattle.position.specs.Answers.{no_board}
 use Rattle.rules.specs.Ends.{switched_ends_of}
 use Rattle.moves.specs.Answers.{ends_count}
 use Rattle.end_number.specs.Number.{place}
-use Rattle.card.specs.declared.CardAnswer.{CardAnswer}
-use Rattle.card.specs.declared.CardAnswer.TheVariants.{Value}
-use Rattle.card.specs.declared.PositionAnswer.{PositionAnswer}
 use Rattle.card.specs.Card.{start_record, turn_record}
 use Rattle.card.specs.Read.{finished, board_after, read_answer}
 
--- what each case of an answer says
-abbrev pub card_told : CardAnswer → Answer
-card_told (Value k) = value k
-card_told (CardAnswer.Refused r) = refused r.number r.at
+-- what an answer says: a number of turns or a new length; or the refusal's number, and the byte where the refused record begins
+abbrev pub card_told : Result ℕ Refused → Answer
+card_told r = told_with r
 
 -- ---- a position by its number
+
+-- a position of a card; or the refusal's number, where it stands in the card, and zeros
+pub record PositionAnswer : Type 0 where
+  pub refused : ℕ
+  pub «at» : ℕ
+  pub board : List ℤ
 
 -- an answer with the refusal k, its place in the card, and zeros
 abbrev pub no_position : ℕ → ℕ → PositionAnswer
 no_position k at = record { refused = k; «at» = at; board = no_board }
+
+-- what an answer says that is a board or a refusal
+abbrev pub position_told : Result (List ℤ) Refused → PositionAnswer
+position_told (Ok b) = record { refused = 0; «at» = 0; board = b }
+position_told (Err r) = no_position (number r.why) r.carried
 
 -- what the reading of a card makes of position k: its refusal, 36 where the card has fewer turns, or the position
 abbrev pub position_from : Answer → List ℕ → ℕ → PositionAnswer

@@ -1,11 +1,11 @@
 -- What the functions that make records answer. Nothing here is a rule: it cuts the definition of adding a turn where the code is cut.
-use Rattle.std.specs.Prelude.{◌≡◌, cond, ◌&&◌, List, [], ◌∷◌, ℕ, ◌/◌, ◌%◌, ltb, ℤ}
-use Rattle.ints.specs.Answer.{Answer, value, refused}
+use Rattle.std.specs.Prelude.{◌≡◌, cond, ◌&&◌, List, ℕ, ltb, ℤ, Result, Ok, Err}
+use Rattle.ints.specs.Refusals.{number}
+use Rattle.ints.specs.declared.refusal.Refusal.{Refusal}
 use Rattle.dice.specs.Dice.{is_die}
 use Rattle.rules.specs.Ends.{switched_ends_of}
 use Rattle.moves.specs.Answers.{ends_count}
 use Rattle.end_number.specs.Number.{place}
-use Rattle.card.specs.declared.writer.RecordAnswer.{RecordAnswer}
 use Rattle.card.specs.Read.{finished}
 use Rattle.card.specs.Answers.{added_record}
 
@@ -16,11 +16,6 @@ record_refusal b d1 d2 e =
     (cond (is_die d1 && is_die d2) (cond (ltb (place e (switched_ends_of b d1 d2)) (ends_count b d1 d2)) 0 12) 7)
 
 -- a turn's record was made, or refused
-pub record RecordMade (b : List ℤ) (d1 d2 : ℕ) (e : List ℤ) (r : RecordAnswer) : Type 0 where
-  pub number : r.refused ≡ record_refusal b d1 d2 e
-  pub bytes : r.refused ≡ 0 → r.bytes ≡ added_record b d1 d2 e
-
--- the record of a dice byte and an end's number, or the refusal's number
-abbrev pub RecordOf : ℕ → Answer → RecordAnswer → Type 0
-RecordOf byte (value k) r = (r.refused ≡ 0) × (r.bytes ≡ 0x54 ∷ 0x55 ∷ byte ∷ k % 256 ∷ k / 256 ∷ [])
-RecordOf byte (refused k n) r = r.refused ≡ k
+abbrev pub RecordMade : List ℤ → ℕ → ℕ → List ℤ → Result (List ℕ) Refusal → Type 0
+RecordMade b d1 d2 e (Ok bytes) = (record_refusal b d1 d2 e ≡ 0) × (bytes ≡ added_record b d1 d2 e)
+RecordMade b d1 d2 e (Err why) = number why ≡ record_refusal b d1 d2 e

@@ -8,13 +8,10 @@ use std::io::Print;
 // whatever comes after it.
 const CARD: usize = 5013;
 
-// Room for the text of any card.
-const TEXT: usize = 42040;
-
 fn main(rt: HostRuntime) -> io::Result<()> {
     let mut card = [0u8; CARD];
     let length = stored::read_full(&mut rt.stdin(), &mut card)?;
-    let mut text = [0u8; TEXT];
-    let bytes = card_text::text(&card[..length], &mut text);
+    let mut text = [0u8; card_text::ROOM];
+    let bytes = card_text::text(&card[..length], &mut text).unwrap();
     rt.write_all(&text[..bytes])
 }

@@ -5,19 +5,15 @@ use mathlib.Core.List.{List, [], ◌∷◌, ◌++◌}
 use Prim.Native.Nat.{ℕ, zero, suc, ◌+◌, ◌*◌, ◌≤◌, ◌<◌}
 use native.Mathlib.Numerals.{add-one}
 use native.Mathlib.Omega.{arith}
-use borrow.Author.Tests.{lt-ltb, le-ltb, ltb-false}
-use lib.Dec.{ltb}
+use borrow.Author.Tests.{lt-ltb, le-ltb}
 use lib.IntN.{ℤ}
-use lib.ListN.{length, get_or, drop, length-append, length-drop, length-take}
-use lib.Seq.{sets-eq, length-take-le}
-use Rattle.ints.proofs.Tests.{by_cond}
+use lib.ListN.{length, get_or, drop, length-append, length-take}
+use lib.Seq.{sets-eq}
 use Rattle.ints.specs.Answer.{Answer, value, refused}
-use Rattle.position.specs.Board.{checkers, Accepted}
+use Rattle.position.specs.Board.{checkers}
 use Rattle.position.specs.Phase.{phase_of}
-use Rattle.position.proofs.Boards.{accepted-unrefused}
 use Rattle.moves.specs.Answers.{ends_count}
-use Rattle.key.specs.Key.{key_of, key_answer}
-use Rattle.key.specs.declared.KeyAnswer.{KeyAnswer}
+use Rattle.key.specs.Key.{key_of}
 use Rattle.card.specs.Read.{start_key, turn_at, larger, smaller, end_number, board_after, read_answer}
 use Rattle.card.proofs.Starts.{length-key}
 use Rattle.card.proofs.Refusals.{read-exactly}
@@ -36,11 +32,6 @@ pub lines_next : (card : List ℕ) (k : ℕ) {out mid new : List ℕ} {from to e
     → Wrote out from (lines_of card (k + 1)) end new
 unfolding lines_of
 lines_next card k v w = rw add-one (wrote-more (lines_of card k) (line_of card k) v w)
-
--- the key of an accepted board, as it is answered
-pub key-answered : {b : List ℤ} → Accepted checkers b → (r : KeyAnswer) → r ≡ key_answer checkers b → r.key ≡ key_of b
-unfolding key_answer
-key-answered {b} a r e = ap (λ (k : KeyAnswer). k.key) e ∙ rw (accepted-unrefused checkers b a)
 
 -- what is told of a turn is its line
 pub line-is : (card : List ℕ) (k : ℕ) {b : List ℤ} {t : Turn} {turn : ℕ} {key : List ℕ} → b ≡ board_after card k → ToldTurn b (drop (turn_at k) card) t
@@ -88,42 +79,6 @@ short-refused number place =
       few-digits 5 place,
     )
 
--- ---- the text in the lent memory
-
-key-size : (card : List ℕ) → 12 ≤ length card → length (start_key card) ≡ 10
-key-size card h = length-take-le 10 (drop 2 card) (omega (arith, length-drop 2 card))
-
-pub start-size : (card : List ℕ) {key : List ℕ} → 12 ≤ length card → key ≡ start_key card → length (start_line key) ≡ 27
-unfolding start_line
-start-size card {key} h e = omega (arith, length-append (hex key) (newline ∷ []), length-hex key, ap length e, key-size card h)
-
--- the first line, the turns' and the last are the text of a card
-pub card-put : (card : List ℕ) (turns : ℕ) {out first mid new key : List ℕ} {phase to end : ℕ} {r : Turns} → 12 ≤ length card → key ≡ start_key card
-    → Wrote out 0 (start_line key) to first → PutTurns card turns to first r mid → phase ≡ phase_of checkers r.last
-    → Wrote mid r.at (result_line phase) end new → Wrote out 0 (text_from checkers (value turns) card) end new × (end ≤ 40 + 42 * turns)
-unfolding text_from
-card-put card turns {phase = phase} h e v p f w =
-    let last : phase ≡ phase_of checkers (board_after card turns) = f ∙ ap (phase_of checkers) p.last in (
-      wrote-more (start_line (start_key card)) (lines_of card turns ++ result_line (phase_of checkers (board_after card turns))) (rw e at v)
-          (wrote-more (lines_of card turns) (result_line (phase_of checkers (board_after card turns))) p.wrote (rw last at w)),
-      omega (arith, v.next, start-size card h e, p.near, w.next, short-result phase),
-    )
-
--- the text of a card, by its reading
-pub text-put-as : (card out : List ℕ) (m : ℕ) {answer : Answer} {r : ℕ} {new : List ℕ} → read_answer checkers m card ≡ answer → text_room m ≤ length out
-    → r ≤ length out → Wrote out 0 (text_from checkers answer card) r new
-    → (r ≡ text_answer checkers m card (length out)) × (new ≡ text_in checkers m card out)
-unfolding text_answer text_in text_of
-text-put-as card out m {answer} e h k w =
-    let text = text_from checkers answer card in
-    let z : 0 + length text ≡ length text = omega arith in
-    rw (le-ltb (length out) (text_room m) h, e)
-    (omega (arith, w.next), w.lent ∙ sets-eq text out 0 (omega (arith, w.next)) ∙ ap (λ (j : ℕ). text ++ drop j out) z)
-
-pub text-unput : (card out : List ℕ) (m : ℕ) → length out < text_room m → (0 ≡ text_answer checkers m card (length out)) × (out ≡ text_in checkers m card out)
-unfolding text_answer text_in
-text-unput card out m h = rw (lt-ltb (length out) (text_room m) h) (refl, refl)
-
 -- ---- the room that a text takes
 
 lines_fit : (card : List ℕ) (k : ℕ) → length (lines_of card k) ≤ 42 * k
@@ -168,13 +123,25 @@ text-fits m card = go (read_answer checkers m card) refl
           ((read-exactly checkers m card turns).0 e).few,
         )
 
-pub answer-fits : (m : ℕ) (card : List ℕ) (room : ℕ) → text_answer checkers m card room ≤ room
-unfolding text_answer
-answer-fits m card room =
-    by_cond (ltb room (text_room m)) 0 (length (text_of checkers m card)) (λ n. n ≤ room) (λ e. omega arith)
-    (λ e. omega (arith, text-fits m card, ltb-false room (text_room m) e))
+-- ---- the text in the lent memory
 
--- the answer with the bound that a caller asks of it
-pub text-answered : (card out : List ℕ) (m : ℕ) {r : ℕ} {new : List ℕ} → (r ≡ text_answer checkers m card (length out)) × (new ≡ text_in checkers m card out)
-    → (r ≡ text_answer checkers m card (length out)) × (new ≡ text_in checkers m card out) × (r ≤ length out)
-text-answered card out m p = (p.0, p.1, omega (arith, p.0, answer-fits m card (length out)))
+-- the first line, the turns' and the last are the text of a card
+pub card-put : (card : List ℕ) (turns : ℕ) {out first mid new : List ℕ} {to end : ℕ} {r : Turns} → Wrote out 0 (start_line (start_key card)) to first
+    → PutTurns card turns to first r mid → Wrote mid r.at (result_line (phase_of checkers r.last)) end new → Wrote out 0 (text_from checkers (value turns) card) end new
+unfolding text_from
+card-put card turns v p w =
+    let last = result_line (phase_of checkers (board_after card turns)) in
+    wrote-more (start_line (start_key card)) (lines_of card turns ++ last) v (wrote-more (lines_of card turns) last p.wrote (rw p.last at w))
+
+pub text-put : (card out : List ℕ) (m : ℕ) {r : ℕ} {new : List ℕ} → text_room m ≤ length out → Wrote out 0 (text_of checkers m card) r new
+    → (r ≡ text_answer checkers m card (length out)) × (new ≡ text_in checkers m card out)
+unfolding text_answer text_in
+text-put card out m h w =
+    let text = text_of checkers m card in
+    let z : 0 + length text ≡ length text = omega arith in
+    rw (le-ltb (length out) (text_room m) h)
+    (omega (arith, w.next), w.lent ∙ sets-eq text out 0 (omega (arith, text-fits m card, h)) ∙ ap (λ (j : ℕ). text ++ drop j out) z)
+
+pub text-unput : (card out : List ℕ) (m : ℕ) → length out < text_room m → (0 ≡ text_answer checkers m card (length out)) × (out ≡ text_in checkers m card out)
+unfolding text_answer text_in
+text-unput card out m h = rw (lt-ltb (length out) (text_room m) h) (refl, refl)

@@ -1,5 +1,5 @@
 -- The text that the card program prints (document 01, "Game card"), as bytes.
-use Rattle.std.specs.Prelude.{cond, List, [], ◌∷◌, ◌++◌, ℕ, zero, suc, ◌+◌, ◌*◌, ◌/◌, ◌%◌, ltb, length, get_or, drop}
+use Rattle.std.specs.Prelude.{cond, List, [], ◌∷◌, ◌++◌, ℕ, zero, suc, ◌+◌, ◌*◌, ◌/◌, ◌%◌, ltb, length, get_or, drop, Option, None, Some}
 use Rattle.ints.specs.Answer.{Answer, value, refused}
 use Rattle.position.specs.Phase.{phase_of}
 use Rattle.moves.specs.Answers.{ends_count}
@@ -99,6 +99,11 @@ text_room m = 40 + 42 * m
 -- ours: the number of bytes of a card's text; 0 where the lent memory has not the room for any card's
 unfoldable pub text_answer : ℕ → ℕ → List ℕ → ℕ → ℕ
 text_answer n m card room = cond (ltb room (text_room m)) 0 (length (text_of n m card))
+
+-- what an answer says: the number of bytes, and 0 where there is none
+abbrev pub text_told : Option ℕ → ℕ
+text_told None = 0
+text_told (Some n) = n
 
 -- ours: the lent memory afterwards: the text, and the bytes after it as they were; all of it as it was where it has not the room
 unfoldable pub text_in : ℕ → ℕ → List ℕ → List ℕ → List ℕ

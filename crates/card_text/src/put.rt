@@ -1,41 +1,37 @@
-// Pieces of text put into lent memory, each from a place on; the place after it is answered.
-ghost use Rattle.std.specs.Prelude.{◌≡◌, [], ◌∷◌, ◌+◌, ◌≤◌, ◌<◌, length};
+// Pieces of text put at a line's end.
+ghost use Rattle.std.specs.Prelude.{◌≡◌, ◌++◌, ◌+◌, ◌≤◌, ◌<◌, length};
+ghost use Rattle.arrayvec.specs.ArrayVec.{array_vec_len};
 ghost use Rattle.card_text.specs.Text.{hex_digit, hex_byte, hex, digits, decimal};
-ghost use Rattle.card_text.specs.Wrote.{Wrote};
 
-use card::writer;
+use crate::lines::Line;
 
 // A word.
-pub fn put_word(out: &mut [u8], at: usize, word: &[u8]) -> usize
-    requires { at + length word.now ≤ length out.old }
-    ensures { Wrote out.old at word.now result out.new }
+pub fn put_word(line: &mut Line, word: &[u8])
+    requires { array_vec_len line.old + length word.now ≤ 42 }
+    ensures { line.new.items ≡ line.old.items ++ word.now }
 {
-    writer::put(out, at, word);
-    at + word.len()
+    line.try_extend_from_slice(word).unwrap();
 }
 
 // The bytes of a key in hex.
-pub fn put_hex(out: &mut [u8], at: usize, key: [u8; 10]) -> usize
-    requires { at + 20 ≤ length out.old }
-    ensures { Wrote out.old at (hex key) result out.new }
+#[tactic(auto, using(crate::proofs::Writing::hex_steps))]
+pub fn put_hex(line: &mut Line, key: [u8; 10])
+    requires { array_vec_len line.old + 20 ≤ 42 }
+    ensures text { line.new.items ≡ line.old.items ++ hex key }
+    ensures size { array_vec_len line.new ≡ array_vec_len line.old + 20 }
 {
-    let mut i = 0;
-    let mut to = at;
-    while i < 10 {
-        to = put_hex_byte(out, to, key[i]);
-        i += 1;
+    for byte in key {
+        put_hex_byte(line, byte);
     }
-    to
 }
 
 // A byte in hex.
-pub fn put_hex_byte(out: &mut [u8], at: usize, byte: u8) -> usize
-    requires { at + 2 ≤ length out.old }
-    ensures { Wrote out.old at (hex_byte byte) result out.new }
+pub fn put_hex_byte(line: &mut Line, byte: u8)
+    requires { array_vec_len line.old + 2 ≤ 42 }
+    ensures { line.new.items ≡ line.old.items ++ hex_byte byte }
 {
-    out[at] = hex_digit(byte / 16);
-    out[at + 1] = hex_digit(byte % 16);
-    at + 2
+    line.push(hex_digit(byte / 16));
+    line.push(hex_digit(byte % 16));
 }
 
 // A digit in hex, A to F in capitals.
@@ -44,41 +40,34 @@ fn hex_digit(digit: u8) -> u8
     ensures { result ≡ hex_digit digit }
 {
     if digit < 10 {
-        return 48 + digit;
+        return b'0' + digit;
     }
-    55 + digit
+    b'A' + (digit - 10)
 }
 
 // A decimal number below 100,000.
-pub fn put_decimal(out: &mut [u8], at: usize, n: usize) -> usize
-    requires { at + 5 ≤ length out.old }
-    ensures { Wrote out.old at (decimal n) result out.new }
+pub fn put_decimal(line: &mut Line, n: usize)
+    requires { array_vec_len line.old + 5 ≤ 42 }
+    ensures text { line.new.items ≡ line.old.items ++ decimal n }
+    ensures size { array_vec_len line.new ≤ array_vec_len line.old + 5 }
 {
-    put_digits(out, at, n, 5)
+    put_digits(line, n, 5);
 }
 
 // A decimal number in at most so many digits, the last ones where it has more.
-fn put_digits(out: &mut [u8], at: usize, n: usize, places: usize) -> usize
-    requires { at + places ≤ length out.old }
-    ensures { Wrote out.old at (digits places n) result out.new }
+#[tactic(auto, using(crate::proofs::Writing::digit_steps))]
+fn put_digits(line: &mut Line, n: usize, places: usize)
+    requires { array_vec_len line.old + places ≤ 42 }
+    ensures text { line.new.items ≡ line.old.items ++ digits places n }
+    ensures size { array_vec_len line.new ≤ array_vec_len line.old + places }
 {
     if places == 0 {
-        return at;
+        return;
     }
     if n < 10 {
-        out[at] = 48 + n as u8;
-        return at + 1;
+        line.push(b'0' + n as u8);
+        return;
     }
-    let to = put_digits(out, at, n / 10, places - 1);
-    out[to] = 48 + (n % 10) as u8;
-    to + 1
-}
-
-// One byte.
-pub fn put_byte(out: &mut [u8], at: usize, byte: u8) -> usize
-    requires { at + 1 ≤ length out.old }
-    ensures { Wrote out.old at (byte ∷ []) result out.new }
-{
-    out[at] = byte;
-    at + 1
+    put_digits(line, n / 10, places - 1);
+    line.push(b'0' + (n % 10) as u8);
 }

@@ -3,6 +3,7 @@ use mathlib.Core.Path.{◌≡◌, refl, ap, sym, ◌∙◌}
 use mathlib.Core.Bool.{Bool, true, false, cond, beq, ◌&&◌, ◌||◌, or-true}
 use mathlib.Core.List.{List, [], ◌∷◌}
 use mathlib.Core.Logic.{◌↔◌}
+use Rattle.std.proofs.Common.{Result, Ok, Err}
 use Prim.Native.Nat.{ℕ, zero, suc, ◌/◌, ◌%◌, ◌≤◌, ◌<◌, min, max}
 use native.Mathlib.Omega.{arith}
 use lib.Dec.{leb, eqb}
@@ -12,19 +13,21 @@ use Rattle.ints.specs.Answer.{value, refused}
 use Rattle.ints.specs.Sums.{all}
 use Rattle.ints.proofs.Tests.{and_left, and_right, all-at}
 use Rattle.dice.specs.declared.Dice.{Dice}
-use Rattle.dice.specs.declared.Dice.TheVariants.{Double, Mixed, Refused}
+use Rattle.dice.specs.declared.Dice.TheVariants.{Double, Mixed}
+use Rattle.ints.specs.declared.refusal.Refusal.{Refusal}
+use Rattle.ints.specs.declared.refusal.Refusal.TheVariants.{DieOutside1To6, NoSuchRoll}
 use Rattle.dice.specs.Rolls.{byte_of, byte, rolls}
 use Rattle.dice.specs.Dice.{is_die, roll_of, dice_of, dice_byte_of, is_byte_in, dice_of_byte, dice_answer}
 use Rattle.dice.proofs.TwoDice.{die-range, range-die, rolled}
 
 -- a roll is told by its byte
-roll-answer : (larger smaller : ℕ) → dice_answer (roll_of larger smaller) ≡ value (byte_of larger smaller)
+roll-answer : (larger smaller : ℕ) → dice_answer (Ok (roll_of larger smaller)) ≡ value (byte_of larger smaller)
 unfolding dice_answer roll_of
 roll-answer larger smaller = go (eqb larger smaller) refl
   where
     go :
         (q : Bool) → eqb larger smaller ≡ q
-        → dice_answer (cond q (Double larger) (Mixed (record { big = larger; small = smaller }))) ≡ value (byte_of larger smaller)
+        → dice_answer (Ok (cond q (Double larger) (Mixed (record { big = larger; small = smaller })))) ≡ value (byte_of larger smaller)
     go true e = ap (λ (s : ℕ). value (byte_of larger s)) (eqb-true larger smaller e)
     go false e = refl
 
@@ -35,13 +38,13 @@ dice-answer d1 d2 = go (is_die d1 && is_die d2)
   where
     go :
         (t : Bool)
-        → dice_answer (cond t (roll_of (max d1 d2) (min d1 d2)) (Refused 7))
+        → dice_answer (cond t (Ok (roll_of (max d1 d2) (min d1 d2))) (Err DieOutside1To6))
         ≡ cond t (value (byte_of (max d1 d2) (min d1 d2))) (refused 7 0)
     go true = roll-answer (max d1 d2) (min d1 d2)
     go false = refl
 
 -- the same of the case that a `match` on the roll finds
-pub told-answer : (d1 d2 : ℕ) {r s : Dice} → r ≡ dice_of d1 d2 → r ≡ s → dice_answer s ≡ dice_byte_of d1 d2
+pub told-answer : (d1 d2 : ℕ) {r s : Result Dice Refusal} → r ≡ dice_of d1 d2 → r ≡ s → dice_answer s ≡ dice_byte_of d1 d2
 told-answer d1 d2 e f = ap dice_answer (sym f ∙ e) ∙ dice-answer d1 d2
 
 -- the tests of `is_dice_byte`: the smaller die is at least 1, at most the larger, and that at most 6
@@ -82,7 +85,7 @@ read-dice b h t =
     ∙ rw (larger, smaller, t)
 
 -- any other byte is refused
-pub read_none : (b : ℕ) → is_byte_in rolls b ≡ false → dice_of_byte b ≡ Refused 26
+pub read_none : (b : ℕ) → is_byte_in rolls b ≡ false → dice_of_byte b ≡ Err NoSuchRoll
 unfolding dice_of_byte
 read_none b t = rw t
 
@@ -109,7 +112,7 @@ pub byte-answer : (b : ℕ) → dice_answer (dice_of_byte b) ≡ cond (is_byte_i
 unfolding dice_of_byte dice_answer
 byte-answer b = go (is_byte_in rolls b)
   where
-    go : (t : Bool) → dice_answer (cond t (roll_of (b / 16) (b % 16)) (Refused 26)) ≡ cond t (value b) (refused 26 0)
+    go : (t : Bool) → dice_answer (cond t (Ok (roll_of (b / 16) (b % 16))) (Err NoSuchRoll)) ≡ cond t (value b) (refused 26 0)
     go true = let e : byte_of (b / 16) (b % 16) ≡ b = omega arith in roll-answer (b / 16) (b % 16) ∙ ap value e
     go false = refl
 
@@ -143,25 +146,16 @@ is-some-byte [] i b h e = absurd (omega arith)
 is-some-byte (r ∷ rs) zero b h e = rw (eq-eqb (r % 256) b e)
 is-some-byte (r ∷ rs) (suc i) b h e = rw (is-some-byte rs i b (omega arith) e, or-true (eqb (r % 256) b))
 
--- a roll is no refusal
-never-refused : (larger smaller n : ℕ) → roll_of larger smaller ≡ Refused n → ⊥
-unfolding roll_of
-never-refused larger smaller n = go (eqb larger smaller)
-  where
-    go : (q : Bool) → cond q (Double larger) (Mixed (record { big = larger; small = smaller })) ≡ Refused n → ⊥
-    go true e = let z : ◌≡◌ {A = ℕ} 0 1 = cc in omega arith
-    go false e = let z : ◌≡◌ {A = ℕ} 0 1 = cc in omega arith
-
 -- a byte is read as a roll exactly if it is the byte of one of the 21
-pub accepts-exactly : (b : ℕ) → ((n : ℕ) → dice_of_byte b ≡ Refused n → ⊥) ↔ ((i : ℕ) × (i < 21) × (byte i ≡ b))
+pub accepts-exactly : (b : ℕ) → ((r : Refusal) → dice_of_byte b ≡ Err r → ⊥) ↔ ((i : ℕ) × (i < 21) × (byte i ≡ b))
 unfolding dice_of_byte byte
 accepts-exactly b = (
   go (is_byte_in rolls b) refl,
-  λ r n e. never-refused (b / 16) (b % 16) n (rw (is-some-byte rolls r.0 b r.1 r.2) at e),
+  λ i r e. (let f : Ok (roll_of (b / 16) (b % 16)) ≡ Err r = rw (is-some-byte rolls i.0 b i.1 i.2) at e in let z : ◌≡◌ {A = ℕ} 0 1 = cc in omega arith),
 )
   where
     go :
-        (t : Bool) → is_byte_in rolls b ≡ t → ((n : ℕ) → cond t (roll_of (b / 16) (b % 16)) (Refused 26) ≡ Refused n → ⊥)
+        (t : Bool) → is_byte_in rolls b ≡ t → ((r : Refusal) → cond t (Ok (roll_of (b / 16) (b % 16))) (Err NoSuchRoll) ≡ Err r → ⊥)
         → (i : ℕ) × (i < 21) × (byte i ≡ b)
     go true e f = some_byte rolls b e
-    go false e f = absurd (f 26 refl)
+    go false e f = absurd (f NoSuchRoll refl)

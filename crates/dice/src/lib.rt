@@ -1,66 +1,59 @@
 // From dice.rs: a roll of two dice, the dice byte, the 21 rolls and the 441 pairs of rolls.
 #![tactic(auto)]
 
-ghost use Rattle.std.specs.Prelude.{◌≡◌, ◌≤◌, min, max, get_or};
+ghost use Rattle.std.specs.Prelude.{◌≡◌, ◌≤◌, get_or};
+ghost use Rattle.ints.specs.Refusals.{told};
 ghost use Rattle.dice.specs.Rolls.{byte_of, rolls, pairs};
-ghost use Rattle.dice.specs.Dice.{is_die, dice_of, dice_byte_of, is_byte_in, dice_of_byte, byte_answer};
+ghost use Rattle.dice.specs.Dice.{is_die, dice_of, dice_byte_of, is_byte_in, dice_of_byte};
+
+use ints::refusal::Refusal;
 
 // Two different dice, 1 to 6: `big` is above `small`.
-#[derive(Drop)]
+#[derive(Clone, Copy, Debug, PartialEq, Eq)]
 pub struct MixedDice {
     pub big: usize,
     pub small: usize,
 }
 
-// A roll, or the number of a refusal.
-#[derive(Drop)]
+// A roll.
+#[derive(Clone, Copy, Debug, PartialEq, Eq)]
 pub enum Dice {
     Double(usize),
     Mixed(MixedDice),
-    Refused(u8),
-}
-
-// A roll's dice byte, or the number of a refusal.
-#[derive(Drop)]
-pub enum DiceByte {
-    Byte(u8),
-    Refused(u8),
 }
 
 impl Dice {
-    // The roll of two dice, in either order. Refused(7) where a die is outside 1 to 6.
-    pub fn new(die1: usize, die2: usize) -> Dice
+    // The roll of two dice, in either order, or the refusal of a die outside 1 to 6.
+    pub fn new(die1: usize, die2: usize) -> Result<Dice, Refusal>
         ensures { result ≡ dice_of die1 die2 }
     {
         if !is_die(die1) {
-            return Dice::Refused(7);
+            return Err(Refusal::DieOutside1To6);
         }
         if !is_die(die2) {
-            return Dice::Refused(7);
+            return Err(Refusal::DieOutside1To6);
         }
         if die1 == die2 {
-            Dice::Double(die1)
-        } else {
-            Dice::Mixed(MixedDice::new(die1, die2))
+            return Ok(Dice::Double(die1));
         }
+        Ok(Dice::Mixed(MixedDice {
+            big: die1.max(die2),
+            small: die1.min(die2),
+        }))
     }
 }
 
-impl MixedDice {
-    // Two dice, the larger told from the smaller.
-    fn new(die1: usize, die2: usize) -> MixedDice
-        ensures { (result.big ≡ max die1 die2) × (result.small ≡ min die1 die2) }
-    {
-        if die1 > die2 {
-            MixedDice {
-                big: die1,
-                small: die2,
-            }
+// The roll of a dice byte, or the refusal of a byte that is none of the 21.
+impl TryFrom<u8> for Dice {
+    type Error = Refusal;
+
+    ghost try_from_gives = { λ byte read. read ≡ dice_of_byte byte };
+
+    fn try_from(byte: u8) -> Result<Dice, Refusal> {
+        if is_dice_byte(byte) {
+            Dice::new((byte / 16) as usize, (byte % 16) as usize)
         } else {
-            MixedDice {
-                big: die2,
-                small: die1,
-            }
+            Err(Refusal::NoSuchRoll)
         }
     }
 }
@@ -72,15 +65,14 @@ pub fn is_die(die: usize) -> bool
     1 <= die && die <= 6
 }
 
-// The dice byte of two dice, in either order: larger × 16 + smaller. Refused(7) where a die is outside 1 to 6.
-pub fn dice_byte(die1: usize, die2: usize) -> DiceByte
-    ensures { byte_answer result ≡ dice_byte_of die1 die2 }
+// The dice byte of two dice, in either order: larger × 16 + smaller; or the refusal of a die outside 1 to 6.
+pub fn dice_byte(die1: usize, die2: usize) -> Result<u8, Refusal>
+    ensures { told result ≡ dice_byte_of die1 die2 }
 {
-    match Dice::new(die1, die2) {
-        Dice::Double(die) => DiceByte::Byte(packed(die, die)),
-        Dice::Mixed(dice) => DiceByte::Byte(packed(dice.big, dice.small)),
-        Dice::Refused(number) => DiceByte::Refused(number),
-    }
+    Ok(match Dice::new(die1, die2)? {
+        Dice::Double(die) => packed(die, die),
+        Dice::Mixed(dice) => packed(dice.big, dice.small),
+    })
 }
 
 // The dice byte of a larger and a smaller die.
@@ -89,17 +81,6 @@ fn packed(big: usize, small: usize) -> u8
     ensures { result ≡ byte_of big small }
 {
     (big * 16 + small) as u8
-}
-
-// The roll of a dice byte. Refused(26) where the byte is none of the 21.
-pub fn dice_of_byte(byte: u8) -> Dice
-    ensures { result ≡ dice_of_byte byte }
-{
-    if is_dice_byte(byte) {
-        Dice::new((byte / 16) as usize, (byte % 16) as usize)
-    } else {
-        Dice::Refused(26)
-    }
 }
 
 // Whether a byte is one of the 21: its halves are two dice, the high one at least the low one.

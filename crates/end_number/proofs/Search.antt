@@ -3,6 +3,7 @@ use mathlib.Core.Path.{◌≡◌, sym, ◌∙◌}
 use mathlib.Core.List.{List, [], map}
 use Prim.Native.Nat.{ℕ, ◌+◌, ◌≤◌, ◌<◌}
 use native.Mathlib.Omega.{arith}
+use Rattle.std.proofs.Common.{Some, None}
 use borrow.Author.Tests.{lt-ltb, le-ltb}
 use lib.IntN.{ℤ}
 use lib.ListN.{length, get_or}
@@ -40,18 +41,18 @@ module _ (n : ℕ) (small : n ≤ 127) (b : List ℤ) (d1 d2 : ℕ) (p : CanPlay
   unfolding Holds
   at_only k h q = shows n small b d1 d2 p slots w.out from k w.filled w.size (omega arith) (omega arith) ∙ q
 
-  -- slots that do not hold e are numbers that e does not have
-  pub window-past : (i : ℕ) → FirstHeld slots m e i → from + i ≤ place e (switched_ends_of b d1 d2)
-  window-past i f =
+  -- where none holds e, e has none of their numbers
+  pub window-past : FirstHeld slots m e None → from + m ≤ place e (switched_ends_of b d1 d2)
+  window-past f =
       let c = count in
-      place-past-all e (switched_ends_of b d1 d2) from i w.none_before (omega (arith, f.most, w.within))
-      (λ j h q. f.before j h (at_only j (omega (arith, f.most)) q))
+      place-past-all e (switched_ends_of b d1 d2) from m w.none_before (omega (arith, w.within)) (λ j h q. f j h (at_only j h q))
 
   -- the slot that holds e is its number
-  pub window-found : (i : ℕ) → FirstHeld slots m e i → i < m → place e (switched_ends_of b d1 d2) ≡ from + i
-  window-found i f h =
+  pub window-found : (i : ℕ) → FirstHeld slots m e (Some i) → place e (switched_ends_of b d1 d2) ≡ from + i
+  window-found i f =
       let c = count in
-      place_at e (switched_ends_of b d1 d2) (from + i) (window-past i f) (omega (arith, w.within)) (at i h (f.found h))
+      let p = place-past-all e (switched_ends_of b d1 d2) from i w.none_before (omega (arith, f.0, w.within)) (λ j h q. f.2 j h (at_only j (omega (arith, f.0)) q)) in
+      place_at e (switched_ends_of b d1 d2) (from + i) p (omega (arith, f.0, w.within)) (at i f.0 f.1)
 
 -- ---- the answers
 

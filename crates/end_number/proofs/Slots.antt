@@ -1,42 +1,58 @@
 -- What a slot of the window holds: by its bytes, and by the number of the end at which the window begins. Assumes nothing.
-use mathlib.Core.Path.{◌≡◌, sym, ap, ◌∙◌}
+use mathlib.Core.Path.{◌≡◌, refl, sym, ap, ◌∙◌}
 use mathlib.Core.List.{List, [], map}
-use Prim.Native.Nat.{ℕ, ◌+◌, ◌-◌, ◌*◌, ◌/◌, ◌≤◌, ◌<◌}
+use Prim.Native.Nat.{ℕ, zero, suc, ◌+◌, ◌-◌, ◌*◌, ◌/◌, ◌≤◌, ◌<◌}
 use native.Mathlib.Omega.{arith}
-use lib.IntN.{ℤ, pos}
-use lib.ListN.{length, get_or, take, drop, replicate, length-drop, length-map, length-replicate}
-use lib.Seq.{ext_get_or, get_or-take, get_or-drop, length-take-le}
+use lib.IntN.{ℤ}
+use Rattle.std.proofs.Common.{Option, Some, None}
+use Rattle.std.specs.List.{AllWithin, HoldsAt}
+use Rattle.std.specs.Option.{MatchOption}
+use Rattle.std.specs.Simd.{first_chunks}
+use lib.ListN.{length, get_or, take, drop, replicate, length-map, length-replicate}
+use lib.Seq.{get_or-take, length-take-le, drop-drop}
 use Rattle.ints.specs.Lent.{Records, written}
 use Rattle.ints.specs.Twos.{from_twos}
 use Rattle.ints.proofs.Lent.{records-map, written-slot, window-record}
 use Rattle.rules.specs.Ends.{ends_of, switched_ends_of}
 use Rattle.moves.specs.Answers.{CanPlay, ends_count}
 use Rattle.moves.specs.Bytes.{image}
-use Rattle.moves.proofs.Entries.{image-size, count-is, get_or-from, slot_read}
-use Rattle.end_number.specs.Slots.{Holds}
+use Rattle.moves.proofs.Entries.{image-size, count-is, slot_read}
+use Rattle.end_number.specs.Slots.{Holds, FirstHeld}
 
--- ---- byte by byte
+-- ---- slot by slot
 
-module _ (slots : List ℕ) (k : ℕ) (e : List ℤ) (s : length slots ≡ 832) (h : k < 32) where
-  size : length (take 26 (drop (k * 26) slots)) ≡ 26
-  size = length-take-le 26 (drop (k * 26) slots) (omega (arith, length-drop (k * 26) slots))
+-- the chunk k of a list is a slot
+chunk-at : (s : List ℕ) (n m k : ℕ) (d : List ℕ) → k < m → get_or (first_chunks n m s) k d ≡ take n (drop (k * n) s)
+chunk-at s n zero k d h = absurd (omega arith)
+chunk-at s n (suc m) zero d h = let z : 0 * n ≡ 0 = omega arith in rw z
+chunk-at s n (suc m) (suc k) d h = chunk-at (drop n s) n m k d (omega arith) ∙ ap (take n) (drop-drop (k * n) n s ∙ ap (λ (i : ℕ). drop i s) (let z : n + k * n ≡ suc k * n = omega arith in z))
 
-  entry_at : (i : ℕ) → i < 26 → get_or (map from_twos (take 26 (drop (k * 26) slots))) i (pos 0) ≡ from_twos (get_or slots (k * 26 + i) 0)
-  entry_at i m =
-      get_or-from (take 26 (drop (k * 26) slots)) i (omega (arith, size))
-      ∙ ap from_twos (get_or-take 26 (drop (k * 26) slots) i 0 m ∙ get_or-drop (k * 26) slots i 0)
+length_chunks : (s : List ℕ) (n m : ℕ) → length (first_chunks n m s) ≡ m
+length_chunks s n zero = refl
+length_chunks s n (suc m) = ap suc (length_chunks (drop n s) n m)
 
-  -- a slot holds the board whose entries its bytes hold, and no other
-  pub holds-entries : length e ≡ 26 → ((i : ℕ) → i < 26 → from_twos (get_or slots (k * 26 + i) 0) ≡ get_or e i (pos 0)) → Holds slots k e
+-- what is found among the first n slots, as chunks
+module _ (slots : List ℕ) (s : length slots ≡ 832) (n : ℕ) (h : n ≤ 32) (e : List ℤ) (chunks : List (List ℕ))
+    (c : chunks ≡ first_chunks 26 (length slots / 26) slots) where
+  at-slot : (k : ℕ) (d : List ℕ) → k < n → get_or (take n chunks) k d ≡ take 26 (drop (k * 26) slots)
+  at-slot k d g =
+      let r : length slots / 26 ≡ 32 = ap (λ (x : ℕ). x / 26) s in
+      get_or-take n chunks k d g ∙ ap (λ (l : List (List ℕ)). get_or l k d) c ∙ chunk-at slots 26 (length slots / 26) k d (omega arith)
+
+  shown : length (take n chunks) ≡ n
+  shown =
+      let r : length slots / 26 ≡ 32 = ap (λ (x : ℕ). x / 26) s in
+      length-take-le n chunks (omega (arith, ap length c, length_chunks slots 26 (length slots / 26)))
+
+  pub first-held : (r : Option ℕ)
+      → MatchOption r (AllWithin (λ x. map from_twos x ≡ e → ⊥) (take n chunks) 0 (length (take n chunks)))
+      (λ i. (i < length (take n chunks)) × HoldsAt (λ x. map from_twos x ≡ e) (take n chunks) i × AllWithin (λ x. map from_twos x ≡ e → ⊥) (take n chunks) 0 i)
+      → FirstHeld slots n e r
   unfolding Holds
-  holds-entries l f =
-      let t = take 26 (drop (k * 26) slots) in
-      let n : length (map from_twos t) ≡ 26 = length-map t from_twos ∙ size in
-      ext_get_or (pos 0) (map from_twos t) e (n ∙ sym l) (λ i m. let q : i < 26 = omega arith in entry_at i q ∙ f i q)
-
-  pub held-entry : (i : ℕ) → i < 26 → Holds slots k e → from_twos (get_or slots (k * 26 + i) 0) ≡ get_or e i (pos 0)
-  unfolding Holds
-  held-entry i m q = sym (entry_at i m) ∙ ap (λ (x : List ℤ). get_or x i (pos 0)) q
+  first-held None m = λ k g q. m k [] (omega arith) (omega (arith, shown)) (ap (map from_twos) (at-slot k [] g) ∙ q)
+  first-held (Some i) m =
+      let j : i < n = omega (arith, m.0, shown) in
+      (j, ap (map from_twos) (sym (at-slot i [] j)) ∙ m.1 [], λ k g q. m.2 k [] (omega arith) g (ap (map from_twos) (at-slot k [] (omega arith)) ∙ q))
 
 -- ---- a window over the ends of a roll
 

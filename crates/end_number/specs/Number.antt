@@ -1,10 +1,10 @@
 -- The number of an end, its place in the list of the roll's ends (document 01, "Steps and ends", "Game card").
-use Rattle.std.specs.Prelude.{cond, List, [], ◌∷◌, ℕ, suc, ltb, ℤ}
+use Rattle.std.specs.Prelude.{cond, List, [], ◌∷◌, ℕ, suc, ltb, ℤ, Result}
 use Rattle.ints.specs.Answer.{Answer, value, refused}
+use Rattle.ints.specs.Refusals.{told}
+use Rattle.ints.specs.declared.refusal.Refusal.{Refusal}
 use Rattle.rules.specs.Ends.{same_board, switched_ends_of}
 use Rattle.moves.specs.Answers.{play_refusal, ends_count}
-use Rattle.end_number.specs.declared.Numbered.{Numbered}
-use Rattle.end_number.specs.declared.Numbered.TheVariants.{Number}
 
 -- "Steps and ends": the place of a board in a list, counted from 0; the list's length where it does not stand there
 unfoldable pub place : List ℤ → List (List ℤ) → ℕ
@@ -18,6 +18,5 @@ number_answer n b d1 d2 e =
     (cond (ltb (place e (switched_ends_of b d1 d2)) (ends_count b d1 d2)) (value (place e (switched_ends_of b d1 d2))) (refused 12 0))
 
 -- what each case of the answer says
-abbrev pub number_told : Numbered → Answer
-number_told (Number n) = value n
-number_told (Numbered.Refused k) = refused k 0
+abbrev pub number_told : Result ℕ Refusal → Answer
+number_told = told

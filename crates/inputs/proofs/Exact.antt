@@ -18,7 +18,7 @@ use Rattle.inputs.specs.Inputs.{whole, four, inputs_of, contact_counts, race_cou
 use Rattle.inputs.specs.Answers.{contact_size, race_size, InputAnswer, is_number, place_answer, contact_input, race_input}
 use Rattle.inputs.proofs.Floats.{whole-exact, whole-number}
 use Rattle.inputs.proofs.Own.{few}
-use Rattle.inputs.proofs.Answers.{place-board, place-14, place-value}
+use Rattle.inputs.proofs.Answers.{place-refused, place-14, place-value}
 use Rattle.inputs.proofs.Fours.{length-contact, length-race, input-four, contact-bar, contact-x, contact-o, race-x, race-o}
 
 -- the values of a count are at most one, or less than it
@@ -82,7 +82,7 @@ place-number : (k size : ℕ) (inputs : List ℕ) (p : ℕ) → (k ≡ 0 → p <
 place-number k size inputs p m = go (lt-or-le 0 k) (lt-or-le p size)
   where
     go : (0 < k) ⊎ (k ≤ 0) → (p < size) ⊎ (size ≤ p) → T (is_number (place_answer k size inputs p))
-    go (inl n) q = subst (λ (a : InputAnswer). T (is_number a)) (place-board k size inputs p (λ z. omega arith)) tt
+    go (inl n) q = subst (λ (a : InputAnswer). T (is_number a)) (place-refused k size inputs p (λ z. omega arith)) tt
     go (inr e) (inl h) = subst (λ (a : InputAnswer). T (is_number a)) (place-value k size inputs p (omega arith) h) (m (omega arith) h)
     go (inr e) (inr h) = subst (λ (a : InputAnswer). T (is_number a)) (place-14 k size inputs p (omega arith) h) tt
 

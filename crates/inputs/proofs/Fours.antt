@@ -6,7 +6,7 @@ use mathlib.Core.List.{List, [], ◌∷◌, ◌++◌}
 use Prim.Native.Nat.{ℕ, suc, ◌+◌, ◌-◌, ◌*◌, ◌/◌, ◌%◌, ◌<◌, ◌≤◌}
 use native.Mathlib.Omega.{arith}
 use lib.IntN.{ℤ}
-use lib.ListN.{length, get_or, length-append, get_or-append}
+use lib.ListN.{length, get_or, get_or-append}
 use lib.Seq.{get_or-append-add}
 use Rattle.ints.specs.Sums.{values}
 use Rattle.ints.proofs.Sums.{length-values, get_or-values}
@@ -67,12 +67,12 @@ two f g i j m n k =
 
 module _ (b : List ℤ) where
   pub length-contact : length (contact_counts b) ≡ 50
-  unfolding contact_counts
-  length-contact = omega (arith, length-append (values (xs b) 1 24) (values (os b) 0 25), length-values (xs b) 1 24, length-values (os b) 0 25)
+  unfolding contact_counts values
+  length-contact = refl
 
   pub length-race : length (race_counts b) ≡ 46
-  unfolding race_counts
-  length-race = omega (arith, length-append (values (xs b) 1 23) (values (os b) 2 23), length-values (xs b) 1 23, length-values (os b) 2 23)
+  unfolding race_counts values
+  length-race = refl
 
 module _ (b : List ℤ) (k : ℕ) where
   pub contact-bar : k ≡ 0 → get_or (contact_counts b) k 0 ≡ xs b 25

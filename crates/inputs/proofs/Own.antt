@@ -2,19 +2,21 @@
 -- Assumes nothing.
 use mathlib.Core.Path.{◌≡◌, refl, ap, ◌∙◌}
 use mathlib.Core.List.{List}
+use borrow.Author.Count.{below_more}
+use lib.ListN.{length, get_or, set, length-set}
+use lib.Seq.{get_or-set_same, get_or-set_other}
 use Prim.Native.Nat.{ℕ, ◌+◌, ◌-◌, ◌≤◌, ◌<◌}
 use native.Mathlib.Omega.{arith}
 use lib.IntN.{ℤ, pos, nat_abs, ◌+ℤ◌, ◌-ℤ◌}
-use lib.Dec.{T}
-use lib.Signed.{non_neg}
 use mir.Syntax.{w8}
 use mir.Val.{SFits}
 use Rattle.ints.specs.Signed.{pos_part, neg_part}
-use Rattle.ints.proofs.Signed.{apart, plus, abs-parts, not_neg, in-range, held, held-is, neg-pos_part, neg-neg_part, neg-fits, neg-held}
+use Rattle.ints.proofs.Signed.{apart, plus, abs-parts, in-range, held, held-is, neg-pos_part, neg-neg_part, neg-fits, neg-held}
 use Rattle.position.specs.Board.{checkers, entry, xs, os, Accepted}
+use Rattle.inputs.specs.Rows.{Row}
 use Rattle.position.proofs.Boards.{at-most-all, accepted-small}
 
--- what a number of own checkers is where a side has n
+-- a number of own checkers: positive where the counted side has n, negative where the other stands
 pub record Own (z : ℤ) (n : ℕ) : Type 0 where
   pub is : pos_part z ≡ n
   pub most : pos_part z ≤ checkers
@@ -54,14 +56,30 @@ module _ (v : ℤ) (f : SFits w8 v) (h : pos_part v ≤ checkers) (k : neg_part 
   held-row : held w8 (held w8 v +ℤ pos 15) ≡ v +ℤ pos 15
   held-row = ap (λ (z : ℤ). held w8 (z +ℤ pos 15)) (held-is w8 v f.sfits) ∙ held-is w8 (v +ℤ pos 15) row_fits.sfits
 
-  pub row-not-neg : T (non_neg (held w8 (held w8 v +ℤ pos 15)))
-  row-not-neg =
-      let a = plus v (pos 15) in
-      let d = apart (v +ℤ pos 15) in
-      rw held-row (not_neg (v +ℤ pos 15) (omega arith))
-
   pub row_is : nat_abs (held w8 (held w8 v +ℤ pos 15)) ≡ pos_part v + 15 - neg_part v
   row_is =
       let a = plus v (pos 15) in
       let d = apart (v +ℤ pos 15) in
       ap nat_abs held-row ∙ omega (arith, abs-parts (v +ℤ pos 15))
+
+-- ---- a net's points, one after another
+
+pub row_of : {r m n : ℕ} → Row r m → m ≡ n → Row r n
+row_of {r} w e = record { below = w.below; is = w.is ∙ e }
+
+-- the first n of fifty rows are those of these counts
+pub record Begun (counts : List ℕ) (l : List ℕ) (n : ℕ) : Type 0 where
+  pub size : length l ≡ 50
+  pub row : (k : ℕ) → k < n → Row (get_or l k 0) (get_or counts k 0)
+
+pub begun_more : {counts : List ℕ} {l : List ℕ} {n : ℕ} (m r : ℕ) → m ≡ n + 1 → n < 50 → Row r (get_or counts n 0)
+    → Begun counts l n → Begun counts (set l n r) m
+begun_more {counts} {l} {n} m r e h o b =
+    let s = b.size in
+    rw e
+    (record {
+      size = length-set l n r ∙ s;
+      row = below_more (λ (k : ℕ). Row (get_or (set l n r) k 0) (get_or counts k 0)) n
+          (λ k h'. rw (get_or-set_other l n k r 0 (λ q. omega arith)) (b.row k h'))
+          (rw (get_or-set_same l n r 0 (omega arith)) o);
+    })

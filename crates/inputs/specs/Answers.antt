@@ -1,14 +1,12 @@
 -- What filling a slice and asking for one input answer (document 01, "Inputs", "Refusal numbers" 13 and 14).
 use Rattle.std.proofs.Math.Bool as truth
-use Rattle.std.specs.Prelude.{Bool, true, cond, List, map, ℕ, ltb, eqb, Float, ℤ, length, get_or}
+use Rattle.std.specs.Prelude.{⊤, Bool, true, cond, List, map, ℕ, ltb, eqb, Float, ℤ, length, get_or, Result, Ok, Err}
 use Rattle.std.specs.Float.Ieee.{is_nan}
 use Rattle.ints.specs.Answer.{Answer, value, refused}
+use Rattle.ints.specs.Refusals.{number}
+use Rattle.ints.specs.declared.refusal.Refusal.{Refusal}
 use Rattle.position.specs.Board.{refusal_of}
 use Rattle.inputs.specs.Inputs.{whole, bits, contact_inputs, race_inputs}
-use Rattle.inputs.specs.declared.Filled.{Filled}
-use Rattle.inputs.specs.declared.Filled.TheVariants.{Done}
-use Rattle.inputs.specs.declared.Input.{Input}
-use Rattle.inputs.specs.declared.Input.TheVariants.{Value}
 
 -- "Refusal numbers" 13: how many values each kind has
 abbrev pub contact_size : ℕ
@@ -18,9 +16,9 @@ abbrev pub race_size : ℕ
 race_size = 186
 
 -- what each case of filling says: no refusal and no value beside it, or the refusal's number
-abbrev pub filled_told : Filled → Answer
-filled_told Done = value 0
-filled_told (Filled.Refused k) = refused k 0
+abbrev pub filled_told : Result ⊤ Refusal → Answer
+filled_told (Ok t) = value 0
+filled_told (Err r) = refused (number r) 0
 
 -- "Inputs": one input asked answers either the value or a refusal number
 pub data InputAnswer : Type 0 where
@@ -33,9 +31,9 @@ is_number (given v) = truth.not (is_nan v)
 is_number (not k) = true
 
 -- what each case of one input says
-abbrev pub input_told : Input → InputAnswer
-input_told (Value v) = given v
-input_told (Input.Refused k) = not k
+abbrev pub input_told : Result Float Refusal → InputAnswer
+input_told (Ok v) = given v
+input_told (Err r) = not (number r)
 
 -- "Refusal numbers", order: the board's refusal k, then 13 where the slice has not exactly `size` values; else no refusal
 unfoldable pub fill_answer : ℕ → ℕ → ℕ → Answer

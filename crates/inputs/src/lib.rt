@@ -2,23 +2,21 @@
 // A lent slice is told by the bits of its f32s, so that a refusal is promised to leave every byte, those of a NaN too.
 #![tactic(auto)]
 
-ghost use Rattle.std.specs.Prelude.{◌≡◌, not, map, ◌+◌, ◌-◌, ◌*◌, ◌≤◌, ◌<◌, T, length, get_or};
+ghost use Rattle.std.specs.Prelude.{◌≡◌, not, map, List, ℕ, ℤ, ◌+◌, ◌-◌, ◌*◌, ◌≤◌, ◌<◌, T, length, get_or};
 ghost use Rattle.std.specs.Float.{binary32};
 ghost use Rattle.std.specs.Float.Ieee.{is_nan, to_bits};
+ghost use Rattle.std.proofs.Common.{lit≤};
 ghost use Rattle.std.proofs.lemmas.List.Edits.{sets};
 ghost use Rattle.ints.specs.Signed.{pos_part, neg_part};
-ghost use Rattle.ints.specs.Sums.{values};
-ghost use Rattle.position.specs.Board.{checkers, xs, os, Accepted};
-ghost use Rattle.inputs.specs.Inputs.{whole, bits, four, fours, contact_counts, race_counts, td_inputs};
-ghost use Rattle.inputs.specs.Answers.{contact_size, race_size, filled_told, input_told, contact_answer, contact_lent, contact_input, race_answer, race_lent, race_input};
+ghost use Rattle.position.specs.Board.{checkers, Accepted, refusal_of};
+ghost use Rattle.inputs.specs.Inputs.{whole, bits, four, inputs_of, contact_counts, race_counts, td_inputs};
+ghost use Rattle.inputs.specs.Rows.{Row, Rows, contact-points, race-points};
+ghost use Rattle.inputs.specs.Answers.{contact_size, race_size, filled_told, input_told, fill_answer, fill_lent, place_answer};
 
-// How many inputs each net has.
-pub const CONTACT_INPUTS: usize = 202;
-
-pub const RACE_INPUTS: usize = 186;
+use ints::refusal::Refusal;
 
 // One row of four for each number of checkers from -15 to 15: the side's own are positive, the other side's negative.
-const TD_INPUTS: [[f32; 4]; 31] = [
+static TD_INPUTS: [[f32; 4]; 31] = [
     [0.0, 0.0, 0.0, 0.0],
     [0.0, 0.0, 0.0, 0.0],
     [0.0, 0.0, 0.0, 0.0],
@@ -52,99 +50,112 @@ const TD_INPUTS: [[f32; 4]; 31] = [
     [0.0, 0.0, 1.0, 12.0],
 ];
 
-// What filling a slice answers: that it is done, or a refusal's number.
-#[derive(Drop)]
-pub enum Filled {
-    Done,
-    Refused(u8),
+// A net: how many inputs it has, and which points it sees.
+pub trait Net {
+    ghost SIZE: { ℕ };
+
+    ghost counts: { List ℤ → List ℕ };
+
+    const SIZE: usize;
+
+    // The table's row of each point, in order of place. What is past the net's points is 0.
+    fn rows(b: &[i8; 26]) -> [u8; 50]
+        requires { Accepted checkers b.now }
+        ensures { Rows result (counts b.now) };
+
+    ghost four_each: { (b : List ℤ) → 2 + 4 * length (counts b) ≡ SIZE };
+
+    ghost most: { SIZE ≤ 202 };
 }
 
-// What one input answers: the value, or a refusal's number.
-#[derive(Drop)]
-pub enum Input {
-    Value(f32),
-    Refused(u8),
+// The contact net: x's bar, x on 1 to 24, o on 0 to 24.
+pub struct Contact;
+
+impl Net for Contact {
+    ghost SIZE = { contact_size };
+
+    ghost counts = { contact_counts };
+
+    ghost four_each = { contact-points };
+
+    ghost most = { lit≤ tt };
+
+    const SIZE: usize = 202;
+
+    fn rows(b: &[i8; 26]) -> [u8; 50] {
+        let mut rows = [0u8; 50];
+        rows[0] = row(b[position::X_BAR]);
+        for p in 1..25 {
+            rows[p] = row(b[p]);
+        }
+        for p in 0..25 {
+            rows[25 + p] = row(-b[p]);
+        }
+        rows
+    }
 }
 
-// Fills the slice with the bits of the contact net's inputs, or refuses and leaves it: the entries by 1 to 4, a slice that has not exactly 202
-// values by 13. Finished and empty boards are taken. The board is lent, which spares a copy of it beside the table.
-pub fn contact_inputs(b: &[i8; 26], out: &mut [u32]) -> Filled
-    ensures { (filled_told result ≡ contact_answer checkers b.now (length out.old)) × (out.new ≡ contact_lent checkers b.now out.old) }
+// The race net: x on 1 to 23, o on 2 to 24.
+pub struct Race;
+
+impl Net for Race {
+    ghost SIZE = { race_size };
+
+    ghost counts = { race_counts };
+
+    ghost four_each = { race-points };
+
+    ghost most = { lit≤ tt };
+
+    const SIZE: usize = 186;
+
+    fn rows(b: &[i8; 26]) -> [u8; 50] {
+        let mut rows = [0u8; 50];
+        for p in 1..24 {
+            rows[p - 1] = row(b[p]);
+        }
+        for p in 2..25 {
+            rows[21 + p] = row(-b[p]);
+        }
+        rows
+    }
+}
+
+// Fills the slice with the bits of the net's inputs, or refuses and leaves it: the entries by 1 to 4, a slice that has not exactly as many
+// values by 13. Finished and empty boards are taken. The board is lent, which spares a copy of it.
+pub fn fill<N: Net>(b: &[i8; 26], out: &mut [u32]) -> Result<(), Refusal>
+    ensures { (filled_told result ≡ fill_answer (refusal_of checkers b.now) N.SIZE (length out.old))
+        × (out.new ≡ fill_lent (refusal_of checkers b.now) N.SIZE (inputs_of checkers b.now (N.counts b.now)) out.old) }
 {
-    let checked = position::check(*b);
-    let refused = checked.refused;
-    if refused != 0 {
-        return Filled::Refused(refused);
+    let all = position::check(*b)?;
+    if out.len() != N::SIZE {
+        return Err(Refusal::InputsNotExact);
     }
-    if out.len() != CONTACT_INPUTS {
-        return Filled::Refused(13);
+    out[0] = off_bits(all.x);
+    out[1] = off_bits(all.o);
+    let rows = N::rows(b);
+    for k in 0..(N::SIZE - 2) / 4 {
+        put_four(out, 2 + 4 * k, td_bits(rows[k]));
     }
-    out[0] = off_bits(checked.all.x);
-    out[1] = off_bits(checked.all.o);
-    put_contact(b, out);
-    Filled::Done
+    Ok(())
 }
 
-// The same for the race net, whose slice has exactly 186 values.
-pub fn race_inputs(b: &[i8; 26], out: &mut [u32]) -> Filled
-    ensures { (filled_told result ≡ race_answer checkers b.now (length out.old)) × (out.new ≡ race_lent checkers b.now out.old) }
+// The net's input that has the place, or the refusal: of the entries, or 14 of a place past the last.
+pub fn input<N: Net>(b: [i8; 26], place: usize) -> Result<f32, Refusal>
+    ensures { input_told result ≡ place_answer (refusal_of checkers b) N.SIZE (inputs_of checkers b (N.counts b)) place }
 {
-    let checked = position::check(*b);
-    let refused = checked.refused;
-    if refused != 0 {
-        return Filled::Refused(refused);
-    }
-    if out.len() != RACE_INPUTS {
-        return Filled::Refused(13);
-    }
-    out[0] = off_bits(checked.all.x);
-    out[1] = off_bits(checked.all.o);
-    put_race(b, out);
-    Filled::Done
-}
-
-// The contact net's input that has the place, or the refusal: of the entries, or 14 of a place not below 202.
-pub fn contact_input(b: [i8; 26], place: usize) -> Input
-    ensures { input_told result ≡ contact_input checkers b place }
-{
-    let checked = position::check(b);
-    let refused = checked.refused;
-    if refused != 0 {
-        return Input::Refused(refused);
-    }
-    if place >= CONTACT_INPUTS {
-        return Input::Refused(14);
+    let all = position::check(b)?;
+    if place >= N::SIZE {
+        return Err(Refusal::NoSuchInput);
     }
     if place == 0 {
-        return Input::Value(off(checked.all.x));
+        return Ok(off(all.x));
     }
     if place == 1 {
-        return Input::Value(off(checked.all.o));
+        return Ok(off(all.o));
     }
-    let own = contact_entry(&b, (place - 2) / 4);
-    Input::Value(td_input(own, (place - 2) % 4))
-}
-
-// The race net's input that has the place, or the refusal: of the entries, or 14 of a place not below 186.
-pub fn race_input(b: [i8; 26], place: usize) -> Input
-    ensures { input_told result ≡ race_input checkers b place }
-{
-    let checked = position::check(b);
-    let refused = checked.refused;
-    if refused != 0 {
-        return Input::Refused(refused);
-    }
-    if place >= RACE_INPUTS {
-        return Input::Refused(14);
-    }
-    if place == 0 {
-        return Input::Value(off(checked.all.x));
-    }
-    if place == 1 {
-        return Input::Value(off(checked.all.o));
-    }
-    let own = race_entry(&b, (place - 2) / 4);
-    Input::Value(td_input(own, (place - 2) % 4))
+    let rows = N::rows(&b);
+    Ok(td_input(rows[(place - 2) / 4], (place - 2) % 4))
 }
 
 // A side's checkers that are off, n being those on the board.
@@ -163,118 +174,53 @@ fn off_bits(n: u32) -> u32
     bits_of(off(n))
 }
 
-// Writes the bits of the contact net's points from place 2 on.
-fn put_contact(b: &[i8; 26], out: &mut [u32])
-    requires { Accepted checkers b.now × (length out.old ≡ contact_size) }
-    ensures { out.new ≡ sets out.old 2 (map bits (fours (contact_counts b.now))) }
-{
-    let table = td_table();
-    put_x(&table, b, 25, 1, out, 2);
-    put_x(&table, b, 1, 24, out, 6);
-    put_o(&table, b, 0, 25, out, 102);
-}
-
-// The same of the race net.
-fn put_race(b: &[i8; 26], out: &mut [u32])
-    requires { Accepted checkers b.now × (length out.old ≡ race_size) }
-    ensures { out.new ≡ sets out.old 2 (map bits (fours (race_counts b.now))) }
-{
-    let table = td_table();
-    put_x(&table, b, 1, 23, out, 2);
-    put_o(&table, b, 2, 23, out, 94);
-}
-
-// Writes the bits of x's values on the n points from `first` on, from place i on.
-fn put_x(table: &[[f32; 4]; 31], b: &[i8; 26], first: usize, n: usize, out: &mut [u32], i: usize)
-    requires table_value { (table.now ≡ td_inputs) × Accepted checkers b.now }
-    requires n_bound { (first + n ≤ 26) × (i + 4 * n ≤ length out.old) }
-    ensures { out.new ≡ sets out.old i (map bits (fours (values (xs b.now) first n))) }
-{
-    let mut k = 0;
-    while k < n {
-        put_row(out, i + 4 * k, td_bits(table, b[first + k]));
-        k += 1;
-    }
-}
-
-// The same of o, whose own checkers are the negative entries.
-fn put_o(table: &[[f32; 4]; 31], b: &[i8; 26], first: usize, n: usize, out: &mut [u32], i: usize)
-    requires table_value { (table.now ≡ td_inputs) × Accepted checkers b.now }
-    requires n_bound { (first + n ≤ 26) × (i + 4 * n ≤ length out.old) }
-    ensures { out.new ≡ sets out.old i (map bits (fours (values (os b.now) first n))) }
-{
-    let mut k = 0;
-    while k < n {
-        put_row(out, i + 4 * k, td_bits(table, -b[first + k]));
-        k += 1;
-    }
-}
-
 // Writes the bits of four values from place i on.
-fn put_row(out: &mut [u32], i: usize, row: [u32; 4])
+fn put_four(out: &mut [u32], i: usize, four: [u32; 4])
     requires { i + 4 ≤ length out.old }
-    ensures { out.new ≡ sets out.old i row }
+    ensures { out.new ≡ sets out.old i four }
 {
-    out[i] = row[0];
-    out[i + 1] = row[1];
-    out[i + 2] = row[2];
-    out[i + 3] = row[3];
+    out[i] = four[0];
+    out[i + 1] = four[1];
+    out[i + 2] = four[2];
+    out[i + 3] = four[3];
 }
 
-// The entry whose positive part is the count of the contact net's point k: x's bar, x on 1 to 24, o on 0 to 24.
-fn contact_entry(b: &[i8; 26], k: usize) -> i8
-    requires { Accepted checkers b.now × (k < 50) }
-    ensures { (pos_part result ≡ get_or (contact_counts b.now) k 0) × (pos_part result ≤ checkers) × (neg_part result ≤ checkers) }
+// The table's row of a number of own checkers, which is negative where the other side stands.
+fn row(own: i8) -> u8
+    requires { (pos_part own ≤ checkers) × (neg_part own ≤ checkers) }
+    ensures { Row result (pos_part own) }
 {
-    if k == 0 {
-        return b[position::X_BAR];
-    }
-    if k < 25 {
-        return b[k];
-    }
-    -b[k - 25]
+    (own + 15) as u8
 }
 
-// The same of the race net: x on 1 to 23, o on 2 to 24.
-fn race_entry(b: &[i8; 26], k: usize) -> i8
-    requires { Accepted checkers b.now × (k < 46) }
-    ensures { (pos_part result ≡ get_or (race_counts b.now) k 0) × (pos_part result ≤ checkers) × (neg_part result ≤ checkers) }
+// Value j of the four of a row.
+fn td_input(row: u8, j: usize) -> f32
+    requires { (row < 31) × (j < 4) }
+    ensures { result ≡ whole (get_or (four (row - 15)) j 0) }
 {
-    if k < 23 {
-        return b[k + 1];
-    }
-    -b[k - 21]
+    let four = td_inputs(row);
+    four[j]
 }
 
-// Value j of the four of a number of own checkers.
-fn td_input(own: i8, j: usize) -> f32
-    requires { (pos_part own ≤ checkers) × (neg_part own ≤ checkers) × (j < 4) }
-    ensures { result ≡ whole (get_or (four (pos_part own)) j 0) }
+// The four values of a row.
+fn td_inputs(row: u8) -> [f32; 4]
+    requires { row < 31 }
+    ensures { result ≡ map whole (four (row - 15)) }
 {
-    let table = td_table();
-    let row = td_inputs(&table, own);
-    row[j]
-}
-
-// The four values of a number of own checkers, which is negative where the other side stands.
-fn td_inputs(table: &[[f32; 4]; 31], own: i8) -> [f32; 4]
-    requires { (table.now ≡ td_inputs) × (pos_part own ≤ checkers) × (neg_part own ≤ checkers) }
-    ensures { result ≡ map whole (four (pos_part own)) }
-{
-    table[(own + 15) as usize]
+    td_table()[row as usize]
 }
 
 // Their bits.
-fn td_bits(table: &[[f32; 4]; 31], own: i8) -> [u32; 4]
-    requires { (table.now ≡ td_inputs) × (pos_part own ≤ checkers) × (neg_part own ≤ checkers) }
-    ensures { result ≡ map bits (four (pos_part own)) }
+fn td_bits(row: u8) -> [u32; 4]
+    requires { row < 31 }
+    ensures { result ≡ map bits (four (row - 15)) }
 {
-    let row = td_inputs(table, own);
+    let four = td_inputs(row);
     [
-        bits_of(row[0]),
-        bits_of(row[1]),
-        bits_of(row[2]),
-        bits_of(row[3]),
+        bits_of(four[0]),
+        bits_of(four[1]),
+        bits_of(four[2]),
+        bits_of(four[3]),
     ]
 }
 
@@ -286,9 +232,9 @@ pub fn bits_of(value: f32) -> u32
     f32::to_bits(value)
 }
 
-// The table as a value: a loop lends it, and so builds it once.
-fn td_table() -> [[f32; 4]; 31]
-    ensures { result ≡ td_inputs }
+// The table, which is read where it stands.
+fn td_table() -> &'static [[f32; 4]; 31]
+    ensures { result.now ≡ td_inputs }
 {
-    TD_INPUTS
+    &TD_INPUTS
 }

@@ -1,5 +1,5 @@
 -- Laws, each file by what it is about: tests, signed parts, sums, two's complement, the bits of numbers, of bytes and of fields, masks,
--- and records in lent memory.
+-- records in lent memory, and refusals.
 pub mod Tests
 pub mod Signed
 pub mod Sums
@@ -10,4 +10,5 @@ pub mod Fields
 pub mod Masks
 pub mod Packs
 pub mod Lent
+pub mod Refusals
 pub mod Tried

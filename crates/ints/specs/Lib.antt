@@ -6,3 +6,4 @@ pub mod Bits
 pub mod Masks
 pub mod Lent
 pub mod Answer
+pub mod Refusals

@@ -9,11 +9,14 @@ use lib.ListN.{replicate}
 use Rattle.ints.specs.Bits.{bits_of, some}
 use Rattle.ints.specs.Sums.{values, total}
 use Rattle.position.specs.Board.{refusal_of}
-use Rattle.position.specs.Answers.{no_board, board_answer}
-use Rattle.position.specs.declared.BoardAnswer.{BoardAnswer}
-use Rattle.position.proofs.Answering.{refused-is, answered-is}
-use Rattle.key.specs.Key.{key_of, key_answer, rest_of, o_side, x_side, meets, bits_refusal, key_refusal, board_of, board_of_key_answer}
-use Rattle.key.specs.declared.KeyAnswer.{KeyAnswer}
+use Rattle.position.specs.Answers.{board_answer, board_told}
+use Rattle.ints.specs.Refusals.{number}
+use Rattle.ints.specs.declared.refusal.Refusal.{Refusal}
+use Rattle.ints.proofs.Refusals.{number-pos}
+use native.Mathlib.Omega.{arith}
+use Rattle.std.proofs.Common.{Ok, Err}
+use Rattle.position.proofs.Answering.{err-told, ok-told}
+use Rattle.key.specs.Key.{key_of, KeyAnswer, key_told, key_answer, rest_of, o_side, x_side, meets, bits_refusal, key_refusal, board_of, board_of_key_answer}
 
 -- ---- the writer's answer
 
@@ -21,11 +24,11 @@ abbrev whole : ℕ → List ℕ → KeyAnswer
 whole n k = record { refused = n; key = k }
 
 module _ (n : ℕ) (b : List ℤ) where
-  pub key-refused : (k : ℕ) → (k ≡ 0 → ⊥) → k ≡ refusal_of n b → whole k (replicate 10 0) ≡ key_answer n b
+  pub key-refused : (r : Refusal) → number r ≡ refusal_of n b → key_told (Err r) ≡ key_answer n b
   unfolding key_answer
-  key-refused k h e = rw (ne_eqb (refusal_of n b) 0 (λ z. h (e ∙ z))) (ap (λ (m : ℕ). whole m (replicate 10 0)) e)
+  key-refused r e = rw (ne_eqb (refusal_of n b) 0 (λ z. omega (arith, number-pos r))) (ap (λ (m : ℕ). whole m (replicate 10 0)) e)
 
-  pub key-answered : refusal_of n b ≡ 0 → (k : List ℕ) → k ≡ key_of b → whole 0 k ≡ key_answer n b
+  pub key-answered : refusal_of n b ≡ 0 → (k : List ℕ) → k ≡ key_of b → key_told (Ok k) ≡ key_answer n b
   unfolding key_answer
   key-answered z k e = rw (eq-eqb (refusal_of n b) 0 z) (ap₂ whole (sym z) e)
 
@@ -57,11 +60,12 @@ module _ (n : ℕ) (l : List Bool) where
 
 -- ---- the reader's answer
 
-module _ (n : ℕ) (k : List ℕ) (r : BoardAnswer) where
-  pub board-refused : (m : ℕ) → 0 < m → m ≡ bits_refusal n (bits_of k) → r.refused ≡ m → r.board ≡ no_board → r ≡ board_of_key_answer n k
+module _ (n : ℕ) (k : List ℕ) where
+  pub board-refused : (r : Refusal) → number r ≡ bits_refusal n (bits_of k) → board_told (Err r) ≡ board_of_key_answer n k
   unfolding board_of_key_answer key_refusal
-  board-refused m h e f g = refused-is r (board_of k) m h f g ∙ ap (λ (i : ℕ). board_answer i (board_of k)) e
+  board-refused r e = err-told r (board_of k) (bits_refusal n (bits_of k)) e
 
-  pub board-answered : 0 ≡ bits_refusal n (bits_of k) → r.refused ≡ 0 → r.board ≡ board_of k → r ≡ board_of_key_answer n k
+  pub board-answered : 0 ≡ bits_refusal n (bits_of k) → (b : List ℤ) → b ≡ board_of k → board_told (Ok b) ≡ board_of_key_answer n k
   unfolding board_of_key_answer key_refusal
-  board-answered e f g = answered-is r (board_of k) f g ∙ ap (λ (i : ℕ). board_answer i (board_of k)) e
+  board-answered e b f =
+      ap (λ (l : List ℤ). board_told (Ok l)) f ∙ ok-told (board_of k) ∙ ap (λ (i : ℕ). board_answer i (board_of k)) e

@@ -2,6 +2,7 @@
 pub mod Runs
 pub mod Counts
 pub mod Sides
+pub mod Boards
 pub mod Answers
 pub mod ReadBack
 pub mod AcceptedKeys

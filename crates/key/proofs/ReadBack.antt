@@ -16,8 +16,7 @@ use Rattle.ints.proofs.Bits.{bits-bytes, none-if, zeros-none}
 use Rattle.ints.proofs.Sums.{length-values, get_or-values, table_at, table_is}
 use Rattle.position.specs.Board.{Accepted, entry, xs, os}
 use Rattle.position.proofs.Boards.{accepted-unrefused}
-use Rattle.key.specs.Key.{counts, runs, key_bits, key_of, counts_of, rest_of, o_side, x_side, meets, board_from, board_of, bits_refusal, key_refusal, key_answer, board_of_key_answer}
-use Rattle.key.specs.declared.KeyAnswer.{KeyAnswer}
+use Rattle.key.specs.Key.{counts, runs, key_bits, key_of, counts_of, rest_of, o_side, x_side, meets, board_from, board_of, bits_refusal, key_refusal, KeyAnswer, key_answer, board_of_key_answer}
 use Rattle.key.proofs.Runs.{counts-runs, rest-runs, runs_append}
 use Rattle.key.proofs.Counts.{o_runs, x_runs, length_o, length-x, o-checkers, x-checkers, length-key-bits}
 use Rattle.key.proofs.Answers.{refusal-0, key-answered, board-answered}
@@ -133,7 +132,7 @@ module _ {n : ℕ} {b : List ℤ} (acc : Accepted n b) where
     unfolding key_refusal
     answered-back =
         ap (λ (a : KeyAnswer). board_of_key_answer n a.key) (sym (key-answered n b (accepted-unrefused n b acc) (key_of b) refl))
-        ∙ sym (board-answered n (key_of b) (record { refused = 0; board = b }) (sym written-accepted) refl (sym read-written))
+        ∙ sym (board-answered n (key_of b) (sym written-accepted) b (sym read-written))
 
 -- different boards, different keys
 pub different-keys : (n : ℕ) (a b : List ℤ) → n ≤ 15 → Accepted n a → Accepted n b → key_of a ≡ key_of b → a ≡ b

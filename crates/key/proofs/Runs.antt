@@ -1,13 +1,17 @@
 -- Laws of runs: what was written is read, and what is read was written. Assumes nothing.
 use mathlib.Core.Path.{◌≡◌, refl, sym, ap, ap₂, ◌∙◌}
-use mathlib.Core.Bool.{Bool, true, false}
+use mathlib.Core.Bool.{Bool, true, false, cond, ◌||◌}
+use native.Mathlib.Numerals.{add-one}
 use mathlib.Core.List.{List, [], ◌∷◌, ◌++◌, append_assoc}
-use Prim.Native.Nat.{ℕ, zero, suc, ◌+◌, ◌<◌, ◌≤◌}
+use Prim.Native.Nat.{ℕ, zero, suc, ◌+◌, ◌<◌, ◌≤◌, min}
 use native.Mathlib.Omega.{arith}
 use lib.ListN.{length, get_or, drop, replicate, length-append, length-replicate}
 use Rattle.ints.specs.Bits.{merged}
 use Rattle.ints.specs.Sums.{total}
 use Rattle.ints.proofs.Fields.{merged-append}
+use Rattle.ints.specs.Bits.{some}
+use Rattle.ints.proofs.Bits.{some-yes, some-no, some_end}
+use Rattle.std.specs.List.{prefix_len, range_with_len, list_any}
 use Rattle.key.specs.Key.{runs, lead, rest, counts_of, rest_of}
 
 -- ---- what was written is read
@@ -93,10 +97,10 @@ runs_append (n ∷ ns) ms =
     ap (λ (k : List Bool). replicate n true ++ (false ∷ k)) (runs_append ns ms) ∙ sym (append_assoc (replicate n true) (false ∷ runs ns) (runs ms))
 
 -- the first run put, and then the others
-pub put-run : (l : List Bool) (i n : ℕ) (ns : List ℕ) → merged l i (runs (n ∷ ns)) ≡ merged (merged l i (replicate n true)) (i + n + 1) (runs ns)
+pub put-run : (l : List Bool) (i n : ℕ) (ns : List ℕ) → merged l i (runs (n ∷ ns)) ≡ merged (merged l i (replicate n true)) (i + (n + 1)) (runs ns)
 unfolding runs merged
 put-run l i n ns =
-    let e : suc (i + length (replicate n true)) ≡ i + n + 1 = omega (arith, length-replicate n true) in
+    let e : suc (i + length (replicate n true)) ≡ i + (n + 1) = omega (arith, length-replicate n true) in
     merged-append l i (replicate n true) (false ∷ runs ns) ∙ ap (λ (k : ℕ). merged (merged l i (replicate n true)) k (runs ns)) e
 
 -- ---- reading bit by bit
@@ -116,3 +120,23 @@ lead-yes [] (suc j) e = cc
 lead-yes (false ∷ l) zero e = cc
 lead-yes (true ∷ l) zero e = refl
 lead-yes (b ∷ l) (suc j) e = lead-yes l j e
+
+-- the first of n bits that are tested in turn and fail end the count
+pub lead-tested : (l : List Bool) (from n : ℕ) → prefix_len (λ k. get_or l k false) (range_with_len from n) ≡ min n (lead (drop from l))
+lead-tested l from zero = omega arith
+lead-tested l from (suc n) = rw (add-one from) (go (get_or l from false) refl (lead-tested l (suc from) n))
+  where
+    go : (t : Bool) → get_or l from false ≡ t → prefix_len (λ k. get_or l k false) (range_with_len (suc from) n) ≡ min n (lead (drop (suc from) l))
+        → cond t (1 + prefix_len (λ k. get_or l k false) (range_with_len (suc from) n)) 0 ≡ min (suc n) (lead (drop from l))
+    go true e r = omega (arith, lead-yes l from e)
+    go false e r = omega (arith, lead-no l from e)
+
+-- a bit set among the n from `from` on, which are the last
+pub some-tested : (l : List Bool) (from n : ℕ) → length l ≤ from + n → list_any (λ k. get_or l k false) (range_with_len from n) ≡ some (drop from l)
+some-tested l from zero h = sym (some_end l from (omega arith))
+some-tested l from (suc n) h = rw (add-one from) (go (get_or l from false) refl (some-tested l (suc from) n (omega arith)))
+  where
+    go : (t : Bool) → get_or l from false ≡ t → list_any (λ k. get_or l k false) (range_with_len (suc from) n) ≡ some (drop (suc from) l)
+        → (t || list_any (λ k. get_or l k false) (range_with_len (suc from) n)) ≡ some (drop from l)
+    go true e r = sym (some-yes l from e)
+    go false e r = r ∙ sym (some-no l from e)

@@ -60,13 +60,13 @@ module _ {bits : List Bool} {from : ℕ} {cs : List ℕ} {at left q : ℕ} (r : 
     met m = omega (arith, r.sum, front-sum)
 
     -- the next point
-    pub step : (n ≡ left → ⊥) → at + left ≤ length bits → Reading bits from (set cs q n) (at + n + 1) (left - n) (q + 1)
+    pub step : (n ≡ left → ⊥) → at + left ≤ length bits → Reading bits from (set cs q n) (at + (n + 1)) (left - n) (q + 1)
     step m g =
         let d : length (drop at bits) ≡ length bits - at = length-drop at bits in
         let a : lead (drop at bits) ≡ n = omega (arith, m) in
         let b : n < left = omega (arith, m) in
-        let i : at + (lead (drop at bits) + 1) ≡ at + n + 1 = omega arith in
-        let t : rest (drop at bits) ≡ drop (at + n + 1) bits =
+        let i : at + (lead (drop at bits) + 1) ≡ at + (n + 1) = omega arith in
+        let t : rest (drop at bits) ≡ drop (at + (n + 1)) bits =
         rest-drop (drop at bits) (omega arith) ∙ drop-drop (lead (drop at bits) + 1) at bits ∙ ap (λ (k : ℕ). drop k bits) i in
         let c : 26 - (q + 1) ≡ 25 - q = omega arith in
         let o = r.low in

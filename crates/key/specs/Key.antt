@@ -1,12 +1,12 @@
 -- The Position ID key of a board (document 01, "Key"), and what writing and reading it answer. Bits are a list, bit 0 first.
 -- Assumes nothing: these are definitions.
-use Rattle.std.specs.Prelude.{Bool, true, false, cond, ◌&&◌, List, [], ◌∷◌, ◌++◌, ℕ, zero, suc, ◌-◌, ltb, eqb, ℤ, pos, ◌-ℤ◌, length, get_or, replicate}
+use Rattle.std.specs.Prelude.{Bool, Result, Ok, Err, true, false, cond, ◌&&◌, List, [], ◌∷◌, ◌++◌, ℕ, zero, suc, ◌-◌, ltb, eqb, ℤ, pos, ◌-ℤ◌, length, get_or, replicate}
 use Rattle.ints.specs.Bits.{bits_of, bytes_of, some}
 use Rattle.ints.specs.Sums.{values, total}
+use Rattle.ints.specs.Refusals.{number}
+use Rattle.ints.specs.declared.refusal.Refusal.{Refusal}
 use Rattle.position.specs.Board.{xs, os, refusal_of}
-use Rattle.position.specs.Answers.{board_answer}
-use Rattle.position.specs.declared.BoardAnswer.{BoardAnswer}
-use Rattle.key.specs.declared.KeyAnswer.{KeyAnswer}
+use Rattle.position.specs.Answers.{BoardAnswer, board_answer}
 
 -- ---- writing
 
@@ -26,6 +26,16 @@ key_bits b = runs (counts b) ++ replicate (80 - length (runs (counts b))) false
 -- "Key": the ten bytes that have these bits.
 unfoldable pub key_of : List ℤ → List ℕ
 key_of b = bytes_of 10 (key_bits b)
+
+-- what is answered of a board: 0 and its key, or the number of a refusal and zeros
+pub record KeyAnswer : Type 0 where
+  pub refused : ℕ
+  pub key : List ℕ
+
+-- what an answer says that is a key or a refusal
+abbrev pub key_told : Result (List ℕ) Refusal → KeyAnswer
+key_told (Ok k) = record { refused = 0; key = k }
+key_told (Err r) = record { refused = number r; key = replicate 10 0 }
 
 -- "Refusal numbers": the board's refusal of 1 to 4 and zeros, or 0 and the key.
 unfoldable pub key_answer : ℕ → List ℤ → KeyAnswer

@@ -1,7 +1,8 @@
 -- What the reader's function for one side answers. Nothing here is a rule: it cuts the definition of reading at its middle.
-use Rattle.std.specs.Prelude.{◌≡◌, Bool, true, false, List, ◌∷◌, ℕ, ◌+◌, ◌≤◌, ◌<◌, drop}
+use Rattle.std.specs.Prelude.{◌≡◌, Bool, Option, Some, None, List, ◌∷◌, ℕ, ◌+◌, ◌≤◌, ◌<◌, drop}
 use Rattle.ints.specs.Sums.{total}
 use Rattle.position.specs.Board.{checkers}
+use Rattle.key.specs.declared.Side.{Side}
 use Rattle.key.specs.Key.{counts_of, rest_of}
 
 -- the 25 runs from bit `from` on give at most fifteen checkers; what they give, and where the bits after them begin
@@ -11,7 +12,7 @@ pub record Counted (bits : List Bool) (from end : ℕ) (counts : List ℕ) : Typ
   pub near : end ≤ from + 40
   pub after : drop end bits ≡ rest_of 25 (drop from bits)
 
--- the runs give too many checkers, or are counted
-abbrev pub IsSide : List Bool → ℕ → Bool → ℕ → List ℕ → Type 0
-IsSide bits from true end counts = checkers < total (counts_of 25 (drop from bits))
-IsSide bits from false end counts = Counted bits from end counts
+-- none where the runs give too many checkers; else they are counted
+abbrev pub IsSide : List Bool → ℕ → Option Side → Type 0
+IsSide bits from None = checkers < total (counts_of 25 (drop from bits))
+IsSide bits from (Some s) = Counted bits from s.end s.counts

@@ -1,69 +1,46 @@
 // From conversion.rs: the ten bytes of the Position ID key, written from a board and read back.
 #![tactic(auto)]
 
-ghost use Rattle.std.specs.Prelude.{◌≡◌, true, ◌&&◌, ℕ, ◌+◌, min, ◌≤◌, ◌<◌, ltb, pos, ◌-ℤ◌, get_or, drop, replicate};
+ghost use Rattle.std.specs.Prelude.{◌≡◌, true, ℕ, ◌+◌, min, ◌≤◌, ◌<◌, get_or, drop, replicate};
 ghost use Rattle.ints.specs.Bits.{Bytes, bits_of, merged, some};
 ghost use Rattle.ints.specs.Sums.{values};
 ghost use Rattle.position.specs.Board.{checkers, Accepted};
-ghost use Rattle.key.specs.Key.{counts, key_of, lead, meets, board_from, key_answer, board_of_key_answer};
+ghost use Rattle.position.specs.Answers.{board_told};
+ghost use Rattle.key.specs.Key.{counts, key_of, lead, meets, board_from, key_told, key_answer, board_of_key_answer};
 ghost use Rattle.key.specs.Side.{IsSide};
 
-use position::BoardAnswer;
+use ints::refusal::Refusal;
+use std::array;
 
-// A key, or the number of the refusal and zeros.
-#[derive(Drop)]
-pub struct KeyAnswer {
-    pub refused: u8,
-    pub key: [u8; 10],
-}
-
-// One side's checkers on its own points 1 to 25, at those places, and the place of the first bit after its runs. Where a
-// sixteenth checker was met, `many` says so and the rest says nothing.
+// One side's checkers on its own points 1 to 25, at those places, and the place of the first bit after its runs.
 #[derive(Drop)]
 struct Side {
-    many: bool,
     end: usize,
     counts: [u8; 26],
 }
 
 // The key of a board, or the refusal of the entries, 1 to 4.
-pub fn encode(b: [i8; 26]) -> KeyAnswer
-    ensures { result ≡ key_answer checkers b }
+pub fn encode(b: [i8; 26]) -> Result<[u8; 10], Refusal>
+    ensures { key_told result ≡ key_answer checkers b }
 {
-    let n = position::refusal(b);
-    if n != 0 {
-        let none = [0u8; 10];
-        return KeyAnswer {
-            refused: n,
-            key: none,
-        };
-    }
-    let key = written(b);
-    KeyAnswer { refused: 0, key }
+    position::check(b)?;
+    Ok(written(b))
 }
 
-// The board of a key, or the refusal: 15 and 16 of o's and x's sixteenth checker, 17 of both sides on one point, 18 of a bit set
-// after the last end bit.
-pub fn decode(k: [u8; 10]) -> BoardAnswer
-    ensures { result ≡ board_of_key_answer checkers k }
+// The board of a key, or the refusal of o's sixteenth checker, of x's, of both sides on one point, or of a bit set after the last end
+// bit.
+pub fn decode(k: [u8; 10]) -> Result<[i8; 26], Refusal>
+    ensures { board_told result ≡ board_of_key_answer checkers k }
 {
-    let o = read_side(k, 0);
-    if o.many {
-        return position::refused(15);
+    let o = read_side(&k, 0).ok_or(Refusal::KeyOOver15)?;
+    let x = read_side(&k, o.end).ok_or(Refusal::KeyXOver15)?;
+    if shared(&x.counts, &o.counts) {
+        return Err(Refusal::KeySharedPoint);
     }
-    let x = read_side(k, o.end);
-    if x.many {
-        return position::refused(16);
+    if set_from(&k, x.end) {
+        return Err(Refusal::KeyBitAfterEnd);
     }
-    let on_x = x.counts;
-    let on_o = o.counts;
-    if shared(&on_x, &on_o) {
-        return position::refused(17);
-    }
-    if set_from(k, x.end) {
-        return position::refused(18);
-    }
-    position::answered(board_from(&on_x, &on_o))
+    Ok(board_from(&x.counts, &o.counts))
 }
 
 // The key of an accepted board.
@@ -73,12 +50,10 @@ fn written(b: [i8; 26]) -> [u8; 10]
 {
     let mut key = [0u8; 10];
     let mut at = 0;
-    let mut j = 0;
-    while j < 50 {
+    for j in 0..50 {
         let n = count(&b, j);
         set_ones(&mut key, at, n);
-        at = at + n + 1;
-        j += 1;
+        at += n + 1;
     }
     key
 }
@@ -99,41 +74,30 @@ fn set_ones(key: &mut [u8; 10], from: usize, n: usize)
     requires { (from + n ≤ 80) × Bytes key.old }
     ensures { (bits_of key.new ≡ merged (bits_of key.old) from (replicate n true)) × Bytes key.new }
 {
-    let mut k = 0;
-    while k < n {
-        ints::set_bit(key, from + k);
-        k += 1;
+    for k in from..from + n {
+        ints::set_bit(key, k);
     }
 }
 
-// One side's 25 runs, the first of which begins at bit `from`. So many checkers as are left make a sixteenth, and end the reading.
-fn read_side(key: [u8; 10], from: usize) -> Side
+// One side's 25 runs, the first of which begins at bit `from`, or `None` where a sixteenth checker is met: so many as are left make
+// one, and end the reading.
+fn read_side(key: &[u8; 10], from: usize) -> Option<Side>
     requires { from ≤ 40 }
-    ensures { IsSide (bits_of key) from result.many result.end result.counts }
+    ensures { IsSide (bits_of key.now) from result }
 {
     let mut counts = [0u8; 26];
     let mut at = from;
     let mut left = 16;
-    let mut q = 1;
-    while q < 26 {
-        let n = ones_from(&key, at, left);
+    for q in 1..26 {
+        let n = ones_from(key, at, left);
         if n == left {
-            return Side {
-                many: true,
-                end: at,
-                counts,
-            };
+            return None;
         }
         counts[q] = n as u8;
         left -= n;
-        at = at + n + 1;
-        q += 1;
+        at += n + 1;
     }
-    Side {
-        many: false,
-        end: at,
-        counts,
-    }
+    Some(Side { end: at, counts })
 }
 
 // How many 1s stand from bit `from` on, counted up to `most`.
@@ -141,53 +105,24 @@ fn ones_from(key: &[u8; 10], from: usize, most: usize) -> usize
     requires { from + most ≤ 80 }
     ensures { result ≡ min most (lead (drop from (bits_of key.now))) }
 {
-    let mut n = 0;
-    while n < most {
-        if !ints::bit(key, from + n) {
-            return n;
-        }
-        n += 1;
-    }
-    most
+    (from..from + most)
+        .take_while(|k| ints::bit(key, *k))
+        .count()
 }
 
 // Whether a bit is set from bit `from` on.
-fn set_from(key: [u8; 10], from: usize) -> bool
+fn set_from(key: &[u8; 10], from: usize) -> bool
     requires { from ≤ 80 }
-    ensures { result ≡ some (drop from (bits_of key)) }
+    ensures { result ≡ some (drop from (bits_of key.now)) }
 {
-    let mut k = from;
-    while k < 80 {
-        if ints::bit(&key, k) {
-            return true;
-        }
-        k += 1;
-    }
-    false
+    (from..80).any(|k| ints::bit(key, k))
 }
 
 // Whether both sides have a checker on one point. Each side's are given at its own points.
 fn shared(x: &[u8; 26], o: &[u8; 26]) -> bool
     ensures { result ≡ some (values (meets x.now o.now) 0 26) }
 {
-    let mut p = 0;
-    while p < 26 {
-        if both(x[p], o[25 - p]) {
-            return true;
-        }
-        p += 1;
-    }
-    false
-}
-
-// Whether a point has checkers of both sides.
-fn both(x: u8, o: u8) -> bool
-    ensures { result ≡ (ltb 0 x && ltb 0 o) }
-{
-    if x > 0 {
-        return o > 0;
-    }
-    false
+    x.iter().zip(o.iter().rev()).any(|(x, o)| *x > 0 && *o > 0)
 }
 
 // The board on which each side has these checkers at its own points, at most fifteen on each.
@@ -195,19 +130,5 @@ fn board_from(x: &[u8; 26], o: &[u8; 26]) -> [i8; 26]
     requires { (p : ℕ) → (get_or x.now p 0 ≤ checkers) × (get_or o.now p 0 ≤ checkers) }
     ensures { result ≡ board_from x.now o.now }
 {
-    let mut b = [0i8; 26];
-    let mut p = 0;
-    while p < 26 {
-        b[p] = entry(x[p], o[25 - p]);
-        p += 1;
-    }
-    b
-}
-
-// The entry of a point that has x's and o's checkers.
-fn entry(x: u8, o: u8) -> i8
-    requires { (x ≤ checkers) × (o ≤ checkers) }
-    ensures { result ≡ pos x -ℤ pos o }
-{
-    (x as i8) - (o as i8)
+    array::from_fn(|p| (x[p] as i8) - (o[25 - p] as i8))
 }

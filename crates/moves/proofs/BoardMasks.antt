@@ -1,6 +1,6 @@
 -- The two masks of a board: how the code makes them, and what their digits tell.
 -- Assumes nothing.
-use mathlib.Core.Path.{◌≡◌, refl, ap, ◌∙◌}
+use mathlib.Core.Path.{◌≡◌, refl, sym, ap, ◌∙◌}
 use mathlib.Core.Bool.{Bool, true, false, ◌&&◌, and-false}
 use mathlib.Core.List.{List}
 use mathlib.Core.Logic.{◌⊎◌, inl, inr}
@@ -8,10 +8,11 @@ use Prim.Native.Nat.{ℕ, ◌+◌, ◌-◌, ◌*◌, ◌^◌, ◌<◌, ◌≤◌
 use native.Mathlib.Decide.{ℕ_discrete}
 use native.Mathlib.Omega.{arith}
 use borrow.Author.Tests.{lt-ltb, le-ltb}
-use lib.Dec.{ltb, leb}
-use lib.IntN.{ℤ}
-use lib.Signed.{mag}
+use lib.Dec.{ltb, leb, leb-suc-suc}
+use lib.IntN.{ℤ, pos, negsuc}
+use lib.Signed.{mag, lt_z, le_z}
 use mir.Syntax.{w8}
+use mir.Val.{bool_byte}
 use Rattle.ints.specs.Bits.{bit, digit}
 use Rattle.ints.specs.Masks.{IsMask}
 use Rattle.ints.specs.Signed.{pos_part, neg_part}
@@ -38,6 +39,19 @@ some_x z = ltb 0 (pos_part z)
 
 abbrev pub few_o : ℤ → Bool
 few_o z = leb (neg_part z) 1
+
+-- the code's tests of an entry, as digits
+bool-digit : (t : Bool) → bool_byte t ≡ digit t
+bool-digit true = refl
+bool-digit false = refl
+
+pub x_digit : (z : ℤ) → bool_byte (lt_z (pos 0) z) ≡ digit (some_x z)
+x_digit (pos n) = bool-digit (ltb 0 n)
+x_digit (negsuc n) = refl
+
+pub free_digit : (z : ℤ) → bool_byte (le_z (negsuc 0) z) ≡ digit (few_o z)
+free_digit (pos n) = refl
+free_digit (negsuc n) = bool-digit (leb n 0) ∙ ap digit (sym (leb-suc-suc n 0))
 
 -- the points whose entry passes the test
 abbrev pub passing : List ℤ → (ℤ → Bool) → ℕ → Bool

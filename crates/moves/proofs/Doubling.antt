@@ -1,24 +1,19 @@
 -- The ends of a double, as the generator meets them: a step from each origin of a mask, checkers that enter, fewer steps where not all
 -- can be made. Assumes nothing.
 use mathlib.Core.Path.{◌≡◌, refl, sym, ap, ◌∙◌}
-use mathlib.Core.Bool.{true, false, not}
+use mathlib.Core.Bool.{true, false}
 use mathlib.Core.List.{List, [], ◌∷◌, append-nil}
 use Prim.Native.Nat.{ℕ, zero, suc, ◌+◌, ◌-◌, ◌^◌, ◌≤◌, ◌<◌}
 use native.Mathlib.Omega.{arith}
-use borrow.Author.Tests.{lt-ltb, lt-leb}
-use lib.IntN.{ℤ, pos, negsuc}
-use lib.Dec.{ltb, leb}
+use lib.IntN.{ℤ}
+use lib.Dec.{ltb}
 use lib.ListN.{length, length-map}
-use lib.Signed.{mag, lt_z}
-use mir.Syntax.{w8}
-use Rattle.ints.specs.Signed.{neg_part}
 use Rattle.ints.specs.Bits.{bit}
 use Rattle.ints.specs.Masks.{those}
 use Rattle.ints.proofs.Tests.{and_right}
-use Rattle.ints.proofs.Signed.{held, held-is}
-use Rattle.position.specs.Board.{entry, xs}
+use Rattle.position.specs.Board.{xs}
 use Rattle.position.specs.Step.{Good, can_step, stepped}
-use Rattle.position.proofs.Steps.{can-none, can-bar, can-land, bar-from}
+use Rattle.position.proofs.Steps.{can-none, can-bar}
 use Rattle.rules.specs.Ends.{up, after, only, or_else, doubles, most}
 use Rattle.dice.specs.Dice.{Die}
 use Rattle.rules.proofs.Lists.{Boards}
@@ -144,12 +139,3 @@ module _ (d : ℕ) (b : List ℤ) (h : 0 < xs b 25) where
   unfolding most
   most-blocked t zero = refl
   most-blocked t (suc k) = rw (doubles-bar k, after_none b d (doubles d k 25) 25 t) (most-blocked t k)
-
-  -- the code's test of the point where it lands
-  pub enter-is : d ≤ 6 → mag (entry b (25 - d)) < 128 → can_step b 25 d ≡ not (lt_z (held w8 (entry b (25 - d))) (negsuc 0))
-  enter-is l g = can-land b 25 d h (bar-from b 25 d refl h) (omega arith) ∙ rw (held-is w8 (entry b (25 - d)) g) (by_sign (entry b (25 - d)))
-    where
-      by_sign : (z : ℤ) → leb (neg_part z) 1 ≡ not (lt_z z (negsuc 0))
-      by_sign (pos n) = refl
-      by_sign (negsuc zero) = refl
-      by_sign (negsuc (suc n)) = lt-leb (suc (suc n)) 1 (omega arith) ∙ ap not (sym (lt-ltb 0 (suc n) (omega arith)))

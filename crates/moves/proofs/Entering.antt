@@ -1,14 +1,13 @@
 -- A mixed roll with x on the bar: the masks after a checker entered, and what the list is then. Assumes nothing.
+use Rattle.std.proofs.Common.{Option, None}
 use mathlib.Core.Path.{◌≡◌, refl, sym, ap, ◌∙◌}
 use mathlib.Core.Bool.{Bool, true, false, not, cond, ◌&&◌, ◌||◌, or-true, or-false}
 use mathlib.Core.List.{List, [], ◌++◌}
-use Prim.Native.Nat.{ℕ, suc, ◌+◌, ◌-◌, ◌*◌, ◌%◌, ◌^◌, ◌<◌, ◌≤◌}
-use native.Mathlib.Nat.{pow-suc}
+use Prim.Native.Nat.{ℕ, ◌+◌, ◌-◌, ◌^◌, ◌<◌, ◌≤◌}
 use native.Mathlib.Omega.{arith}
 use native.Mathlib.Decide.{ℕ_discrete}
 use borrow.Author.Tests.{ltb-true, lt-ltb, le-leb, eq-eqb, ne_eqb}
-use lib.Bits.{bit_or, or_lt}
-use lib.Pow.{pow_mono, pow_pos}
+use lib.Bits.{bit_or}
 use lib.Dec.{ltb, leb, eqb}
 use lib.IntN.{ℤ}
 use lib.ListN.{length, length-append}
@@ -16,7 +15,7 @@ use Rattle.ints.specs.Signed.{Small}
 use Rattle.ints.specs.Sums.{one}
 use Rattle.ints.specs.Bits.{bit}
 use Rattle.ints.specs.Masks.{IsMask, those}
-use Rattle.ints.proofs.Digits.{bit-or-pow, shl_one}
+use Rattle.ints.proofs.Digits.{bit-or-pow}
 use Rattle.ints.proofs.Signed.{small-more}
 use Rattle.ints.proofs.Sums.{one_same, one-other}
 use Rattle.ints.proofs.Tests.{by_cond}
@@ -32,7 +31,7 @@ use Rattle.rules.proofs.Bound.{length_both}
 use Rattle.rules.proofs.Repeats.{both-bar, both-full, bar-alone, enter-full}
 use Rattle.moves.specs.Bytes.{steps}
 use Rattle.moves.specs.Points.{inside, holds_x, is_free, Masked, origins_mask}
-use Rattle.moves.specs.Seconds.{Omits, up_but, enter_but, one_die, after_entering}
+use Rattle.moves.specs.Seconds.{left_out, Omits, up_but, enter_but, one_die, after_entering}
 use Rattle.moves.proofs.Seconds.{but-none, but-omits, but-points, up-but}
 
 -- ---- the masks after a checker entered
@@ -85,21 +84,9 @@ module _ (b : List ℤ) (d : ℕ) (g : Good b) (die : Die d) (can : can_step b 2
           let k : os b i ≡ os (stepped b 25 d) i = omega (arith, law.o i l, on i, one-other (25 - d) i n) in
           ap (λ (m : ℕ). leb m 1) k
 
--- x's points then, as the code makes them
-abbrev pub entered : ℕ → ℕ → ℕ
-entered x d = bit_or x ((1 * 2 ^ (25 - d)) % 2 ^ 32)
-
-entered-is : (x d : ℕ) → entered x d ≡ bit_or x (2 ^ (25 - d))
-entered-is x d = ap (bit_or x) (shl_one 32 (25 - d) (omega arith))
-
-pub entered-lt : (x d : ℕ) → x < 2 ^ 25 → Die d → entered x d < 2 ^ 25
-entered-lt x d h die =
-    let u : 2 ^ suc (25 - d) ≤ 2 ^ 25 = pow_mono {i = suc (25 - d)} {j = 25} (omega (arith, die.low)) in
-    rw (entered-is x d) (or_lt 25 x (2 ^ (25 - d)) h (omega (arith, pow-suc 2 (25 - d), pow_pos (25 - d))))
-
 -- ---- one on the bar
 
-module _ (b : List ℤ) (d e w : ℕ) where
+module _ (b : List ℤ) (d e : ℕ) (w : Option ℕ) where
   enter-yes : can_step b 25 d ≡ true → enter_but b d e w ≡ up_but (stepped b 25 d) e w 25
   unfolding enter_but after
   enter-yes can = rw can
@@ -108,30 +95,30 @@ module _ (b : List ℤ) (d e w : ℕ) where
   unfolding enter_but after
   enter-no can = rw can
 
-  -- m are the origins of the second die, r those without w
-  pub enter-turn : (x free m r : ℕ) → Good b → Die d → Die e → IsMask (holds_x b) x → IsMask (is_free b) free → xs b 25 ≡ 1
-      → can_step b 25 d ≡ true → x < 2 ^ 25 → free < 2 ^ 25 → m ≡ origins_mask (entered x d) free e 24 → IsMask (λ i. bit m i && not (eqb i w)) r
-      → steps (stepped b 25 d) e (those 25 0 (bit r)) ≡ enter_but b d e w
-  enter-turn x free m r g dd de xm fm one can xl fl o without =
-      let k : Masked (stepped b 25 d) (entered x d) free = rw (entered-is x d) (entered-masked b d g dd can x free xm fm one) in
-      up-but (record { good = can-good b 25 d g can; masked = k; x_lt = entered-lt x d xl dd; free-lt = fl }) de 24 (omega arith) w r
-      (λ i. without i ∙ ap (λ (n : ℕ). bit n i && not (eqb i w)) o)
+  -- y and f are the masks after it entered, m the origins of the second die, r those without w
+  pub enter-turn : (x free y f m r : ℕ) → Good b → Die d → Die e → IsMask (holds_x b) x → IsMask (is_free b) free → xs b 25 ≡ 1
+      → can_step b 25 d ≡ true → (y ≡ bit_or x (2 ^ (25 - d))) × (f ≡ free) → y < 2 ^ 25 → f < 2 ^ 25 → m ≡ origins_mask y f e 24
+      → IsMask (λ i. bit m i && not (left_out w i)) r → steps (stepped b 25 d) e (those 25 0 (bit r)) ≡ enter_but b d e w
+  enter-turn x free y f m r g dd de xm fm one can a yl fl o without =
+      let k : Masked (stepped b 25 d) y f = rw (a.0, a.1) (entered-masked b d g dd can x free xm fm one) in
+      up-but (record { good = can-good b 25 d g can; masked = k; x_lt = yl; free-lt = fl }) de 24 (omega arith) w r
+      (λ i. without i ∙ ap (λ (n : ℕ). bit n i && not (left_out w i)) o)
       ∙ sym (but-points (stepped b 25 d) e w k.bar) ∙ sym (enter-yes can)
 
   enter-omits : Omits b d e 25 w → enter_but b d e w ≡ enter_once b d e
   unfolding enter_but enter_once after
   enter-omits h = ap (λ l. cond (can_step b 25 d) l []) (but-omits b d e 25 w (stepped b 25 d) 25 h)
 
-enter-none : (b : List ℤ) (d e : ℕ) → enter_but b d e 0 ≡ enter b d e
+enter-none : (b : List ℤ) (d e : ℕ) → enter_but b d e None ≡ enter b d e
 unfolding enter_but enter after
 enter-none b d e = ap (λ l. cond (can_step b 25 d) l []) (but-none (stepped b 25 d) e 25)
 
 module _ (b : List ℤ) (s l : ℕ) (g : Good b) (ds : Die s) (dl : Die l) (lt : s < l) (h : xs b 25 ≡ 1) where
   -- all after the larger die, then those after the smaller but for the omitted one
-  pub both-but : (w : ℕ) → Omits b s l 25 w → enter_but b l s 0 ++ enter_but b s l w ≡ both b s l
+  pub both-but : (w : Option ℕ) → Omits b s l 25 w → enter_but b l s None ++ enter_but b s l w ≡ both b s l
   both-but w o = rw (enter-none b l s, enter-omits b s l w o) (sym (both-bar b s l g ds dl lt h))
 
-  pub enter-few : length (enter_but b l s 0) ≤ 576
+  pub enter-few : length (enter_but b l s None) ≤ 576
   enter-few =
       rw (enter-none b l s)
       (omega (arith, length_both b s l, ap length (both-bar b s l g ds dl lt h), length-append (enter b l s) (enter_once b s l)))

@@ -1,6 +1,7 @@
 -- What the entries answer, as the code's tests go, and what a window of the generator holds.
 -- Assumes nothing.
-use mathlib.Core.Path.{◌≡◌, refl, sym, ap, ap₂, ◌∙◌}
+use Rattle.std.proofs.Common.{Result, Ok, Err}
+use mathlib.Core.Path.{◌≡◌, refl, sym, ap, ap₂, subst, ◌∙◌}
 use mathlib.Core.Bool.{Bool, false, cond, and-false}
 use mathlib.Core.List.{List, [], ◌∷◌, ◌++◌, map, flatten, map-map}
 use mathlib.Core.Logic.{inl, inr}
@@ -11,6 +12,8 @@ use lib.Dec.{ltb}
 use lib.IntN.{ℤ, pos}
 use lib.ListN.{length, get_or, drop, length-map}
 use Rattle.ints.specs.Answer.{Answer, value, refused, carried}
+use Rattle.ints.specs.Refusals.{number, refusal_in}
+use Rattle.ints.specs.declared.refusal.Refusal.{Refusal}
 use Rattle.ints.specs.Signed.{Small}
 use Rattle.ints.specs.Twos.{twos, from_twos}
 use Rattle.ints.specs.Lent.{Records, written}
@@ -26,7 +29,8 @@ use Rattle.position.proofs.SideSwitch.{switched-size}
 use Rattle.rules.specs.Ends.{ends_of, switched_ends_of, In}
 use Rattle.rules.proofs.Bound.{at_most}
 use Rattle.rules.proofs.Switched.{switched-length, switched-end-accepted}
-use Rattle.moves.specs.Bytes.{image, Passed}
+use Rattle.moves.specs.Bytes.{image, Passed, Took}
+use Rattle.moves.specs.declared.window.Window.{Window}
 use Rattle.moves.specs.Answers.{play_refusal, CanPlay, Playable, ends_count, list_answer, listed_in, count_answer, end_refusal}
 
 -- ---- the refusals of a play
@@ -53,6 +57,18 @@ module _ (n : ℕ) (b : List ℤ) (d1 d2 : ℕ) where
     pub play-none : CanPlay n b d1 d2 → Playable n b d1 d2 0
     unfolding play_refusal
     play-none p = record { is = rw (le-ltb 0 (start_refusal n b) (omega arith), p.first, p.second); ok = λ z. p }
+
+-- what is known where the test of a board is passed
+pub may_start : {n : ℕ} {b : List ℤ} {A : Type 0} {r : Result A Refusal} → Started n b (refusal_in r) → {a : A} → r ≡ Ok a → Started n b 0
+may_start {n} {b} {A} k e = subst (λ (r : Result A Refusal). Started n b (refusal_in r)) e k
+
+-- what is known of a play where its test is passed, and where it is refused
+module _ {n : ℕ} {b : List ℤ} {d1 d2 : ℕ} {A : Type 0} {r : Result A Refusal} (k : Playable n b d1 d2 (refusal_in r)) where
+  pub may_play : {a : A} → r ≡ Ok a → Playable n b d1 d2 0
+  may_play e = subst (λ (r : Result A Refusal). Playable n b d1 d2 (refusal_in r)) e k
+
+  pub play-refused : {why : Refusal} → r ≡ Err why → number why ≡ play_refusal n b d1 d2
+  play-refused e = sym (ap refusal_in e) ∙ k.is
 
 -- ---- ends as records
 
@@ -86,12 +102,15 @@ module _ (b : List ℤ) (d1 d2 : ℕ) where
       written-list 26 out (map image (ends_of b d1 d2)) (omega arith) (records b d1 d2) (omega arith)
       ∙ ap₂ (λ (l : List ℕ) (k : ℕ). l ++ drop (k * 26) out) (ap flatten (images b d1 d2)) c
 
--- ends that are told otherwise are passed alike
-pub passed-same : {es fs : List (List ℤ)} {out out' : List ℕ} {from start r : ℕ} → Passed es out from start r out' → es ≡ fs → Passed fs out from start r out'
-passed-same {es} {fs} {out} {out'} {from} {start} p e = record {
-  number = p.number ∙ ap (λ (x : List (List ℤ)). start + length x) e;
-  lent = p.lent ∙ ap (λ (x : List (List ℤ)). written 26 out from start (map image x)) e;
-}
+-- what a window over lent memory took was passed to that, however the ends are told
+pub took-passed : {es fs : List (List ℤ)} {w w' : Window} {out out' : List ℕ} {from start r : ℕ} → w.out.now ≡ out → w.from ≡ from
+    → Took es w start r w' → es ≡ fs → out' ≡ w'.out.now → Passed fs out from start r out'
+took-passed {w = w} {start = start} o f t e l =
+    let p = t.passed in
+    rw (← o, ← f) record {
+      number = p.number ∙ ap (λ (x : List (List ℤ)). start + length x) e;
+      lent = l ∙ p.lent ∙ ap (λ (x : List (List ℤ)). written 26 w.out.now w.from start (map image x)) e;
+    }
 
 -- ---- an end read back from its bytes
 

@@ -1,12 +1,13 @@
 -- The two halves of a mixed roll's list with x's bar empty, over the points of a mask. Assumes nothing.
-use mathlib.Core.Path.{◌≡◌, refl, sym, ap, ◌∙◌}
+use Rattle.std.proofs.Common.{Option}
+use mathlib.Core.Path.{◌≡◌, refl, sym, ap, ap₂, ◌∙◌}
 use mathlib.Core.Bool.{Bool, true, false, not, ◌&&◌}
 use mathlib.Core.List.{List, []}
 use mathlib.Core.Logic.{◌⊎◌, inl, inr}
 use Prim.Native.Nat.{ℕ, ◌+◌, ◌-◌, ◌/◌, ◌^◌, ◌<◌, ◌≤◌}
 use native.Mathlib.Omega.{arith}
 use borrow.Author.Tests.{ltb-false, lt-ltb, le-ltb}
-use lib.Dec.{ltb, eqb}
+use lib.Dec.{ltb}
 use lib.IntN.{ℤ}
 use lib.ListN.{length, length-append}
 use Rattle.ints.specs.Bits.{bit}
@@ -23,7 +24,7 @@ use Rattle.rules.proofs.Bound.{length_both}
 use Rattle.rules.proofs.Repeats.{both-free}
 use Rattle.moves.specs.Bytes.{steps, over}
 use Rattle.moves.specs.Points.{holds_x, origins_mask, after_mask}
-use Rattle.moves.specs.Seconds.{Omits}
+use Rattle.moves.specs.Seconds.{left_out, Omits}
 use Rattle.moves.proofs.Seconds.{Kept, kept-after, up-over, down-over, down-all, up-but, but-omits}
 
 -- the ends that begin with a step from p: by the smaller die s, and by the larger die l
@@ -67,11 +68,11 @@ module _ {b : List ℤ} {x free : ℕ} (k : Kept b x free) where
     top-over = down-over k ds 24 (omega arith) (λ p c. down p (after c l only))
 
     -- y are x's points after the first step, m the origins of the second
-    pub top-turn : (p y m : ℕ) → p < 25 → can_step b p s ≡ true → (y ≡ after_mask b x p s) × (y < 2 ^ 25) → m ≡ origins_mask y free l p
+    pub top-turn : (p y f m : ℕ) → p < 25 → can_step b p s ≡ true → (y ≡ after_mask b x p s) × (f ≡ free) → y < 2 ^ 25 → m ≡ origins_mask y f l p
         → steps (stepped b p s) l (those_down 25 (bit m)) ≡ top_from b s l p
-    top-turn p y m h can a o =
-        ap (λ (n : ℕ). steps (stepped b p s) l (those_down 25 (bit n))) (o ∙ ap (λ (n : ℕ). origins_mask n free l p) a.0)
-        ∙ down-all (kept-after k ds p can (omega (arith, a))) dl p h
+    top-turn p y f m h can a small o =
+        ap (λ (n : ℕ). steps (stepped b p s) l (those_down 25 (bit n))) (o ∙ ap₂ (λ n g. origins_mask n g l p) a.0 a.1)
+        ∙ down-all (kept-after k ds p can (omega (arith, a.0))) dl p h
 
     pub low-over : clear_from b (s + 1) ≡ false → over (low_from b l s) (those 25 0 (bit (origins_mask x free l 24))) ≡ low_once b l s
     unfolding low_once
@@ -82,11 +83,11 @@ module _ {b : List ℤ} {x free : ℕ} (k : Kept b x free) where
     low-none z = rw z
 
     -- the same, and r are the origins without w, which is to be left out after p
-    pub low_turn : (p y m w r : ℕ) → p < 25 → can_step b p l ≡ true → (y ≡ after_mask b x p l) × (y < 2 ^ 25) → m ≡ origins_mask y free s (p - 1)
-        → Omits b l s p w → IsMask (λ i. bit m i && not (eqb i w)) r → steps (stepped b p l) s (those 25 0 (bit r)) ≡ low_from b l s p
-    low_turn p y m w r h can a o left without =
-        let e : m ≡ origins_mask (after_mask b x p l) free s (p - 1) = o ∙ ap (λ (n : ℕ). origins_mask n free s (p - 1)) a.0 in
-        up-but (kept-after k dl p can (omega (arith, a))) ds (p - 1) (omega arith) w r (λ i. without i ∙ ap (λ (n : ℕ). bit n i && not (eqb i w)) e)
+    pub low_turn : (p y f m : ℕ) (w : Option ℕ) (r : ℕ) → p < 25 → can_step b p l ≡ true → (y ≡ after_mask b x p l) × (f ≡ free) → y < 2 ^ 25 → m ≡ origins_mask y f s (p - 1)
+        → Omits b l s p w → IsMask (λ i. bit m i && not (left_out w i)) r → steps (stepped b p l) s (those 25 0 (bit r)) ≡ low_from b l s p
+    low_turn p y f m w r h can a small o left without =
+        let e : m ≡ origins_mask (after_mask b x p l) free s (p - 1) = o ∙ ap₂ (λ n g. origins_mask n g s (p - 1)) a.0 a.1 in
+        up-but (kept-after k dl p can (omega (arith, a.0))) ds (p - 1) (omega arith) w r (λ i. without i ∙ ap (λ (n : ℕ). bit n i && not (left_out w i)) e)
         ∙ but-omits b l s p w (stepped b p l) (p - 1) left
 
     -- both halves together are few

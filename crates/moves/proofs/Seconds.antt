@@ -1,5 +1,6 @@
 -- The ends of a step from the points of a mask are the rules' list, with one origin left out or none; which origin is to be left out.
 -- Assumes nothing.
+use Rattle.std.proofs.Common.{Option, None, Some}
 use mathlib.Core.Path.{◌≡◌, refl, sym, ap, ◌∙◌}
 use mathlib.Core.Bool.{Bool, true, false, not, cond, ◌&&◌, and-true, and-false}
 use mathlib.Core.List.{List, [], ◌∷◌, append-nil}
@@ -25,7 +26,7 @@ use Rattle.rules.proofs.Two.{can-good}
 use Rattle.rules.proofs.Repeats.{omits-is}
 use Rattle.moves.specs.Bytes.{steps, over}
 use Rattle.moves.specs.Points.{Masked, origins_mask, after_mask}
-use Rattle.moves.specs.Seconds.{Omits, up_but}
+use Rattle.moves.specs.Seconds.{left_out, Omits, up_but}
 use Rattle.moves.proofs.Origins.{origins-are, up-origins, down-origins, after-masked, over-only}
 
 -- ---- walks over all points
@@ -42,35 +43,35 @@ bar-none : (c : List ℤ) (e : ℕ) → xs c 25 ≡ 0 → after c e only 25 ≡ 
 unfolding after
 bar-none c e h = rw (can-none c 25 e h)
 
-pub but-points : (c : List ℤ) (e w : ℕ) → xs c 25 ≡ 0 → up_but c e w 25 ≡ up_but c e w 24
+pub but-points : (c : List ℤ) (e : ℕ) (w : Option ℕ) → xs c 25 ≡ 0 → up_but c e w 25 ≡ up_but c e w 24
 unfolding up_but
-but-points c e w h = from-points (λ q. cond (eqb q w) [] (after c e only q)) (rw (bar-none c e h) (go (eqb 25 w)))
+but-points c e w h = from-points (λ q. cond (left_out w q) [] (after c e only q)) (rw (bar-none c e h) (go (left_out w 25)))
   where
     go : (t : Bool) → ◌≡◌ {A = List (List ℤ)} (cond t [] []) []
     go true = refl
     go false = refl
 
--- 0 is no origin
-pub but-none : (c : List ℤ) (e top : ℕ) → up_but c e 0 top ≡ up top (after c e only)
+-- where none is left out
+pub but-none : (c : List ℤ) (e top : ℕ) → up_but c e None top ≡ up top (after c e only)
 unfolding up_but
-but-none c e top = up-ext top (λ q. cond (eqb q 0) [] (after c e only q)) (after c e only) (λ q i j. rw (ne_eqb q 0 (λ z. omega arith)))
+but-none c e top = refl
 
 -- the origin left out is the one whose end is omitted
-pub but-omits : (b : List ℤ) (d e p w : ℕ) (c : List ℤ) (top : ℕ) → Omits b d e p w → up_but c e w top ≡ up top (unless_omitted b d e p c)
+pub but-omits : (b : List ℤ) (d e p : ℕ) (w : Option ℕ) (c : List ℤ) (top : ℕ) → Omits b d e p w → up_but c e w top ≡ up top (unless_omitted b d e p c)
 unfolding up_but unless_omitted
 but-omits b d e p w c top h =
-    up-ext top (λ q. cond (eqb q w) [] (after c e only q)) (λ q. cond (omits b d e p q) [] (after c e only q)) (λ q i j. rw (h q i))
+    up-ext top (λ q. cond (left_out w q) [] (after c e only q)) (λ q. cond (omits b d e p q) [] (after c e only q)) (λ q i j. rw (h q i))
 
 -- ---- the origin to leave out
 
-pub none-omitted : (b : List ℤ) (d e p : ℕ) → (d < p → os b (p - d) ≡ 0 → os b (p - e) ≡ 0 → ⊥) → Omits b d e p 0
-none-omitted b d e p n q h = ne_eqb q 0 (λ z. omega arith) ∙ sym (go (omits b d e p q) refl)
+pub none-omitted : (b : List ℤ) (d e p : ℕ) → (d < p → os b (p - d) ≡ 0 → os b (p - e) ≡ 0 → ⊥) → Omits b d e p None
+none-omitted b d e p n q h = sym (go (omits b d e p q) refl)
   where
     go : (t : Bool) → omits b d e p q ≡ t → t ≡ false
     go false z = refl
     go true z = let f = (omits-is b d e p q).0 z in absurd (n (omega (arith, f.0)) f.1 f.2)
 
-pub one-omitted : (b : List ℤ) (d e p : ℕ) → os b (p - d) ≡ 0 → os b (p - e) ≡ 0 → Omits b d e p (p - d)
+pub one-omitted : (b : List ℤ) (d e p : ℕ) → os b (p - d) ≡ 0 → os b (p - e) ≡ 0 → Omits b d e p (Some (p - d))
 unfolding omits
 one-omitted b d e p y z q h =
     rw (eq-eqb (os b (p - d)) 0 y, eq-eqb (os b (p - e)) 0 z) (sym (and-true (eqb q (p - d) && true) ∙ and-true (eqb q (p - d))))
@@ -103,17 +104,17 @@ bit-without m q i = go (bit m q) refl
 -- ---- the same over the points of a mask
 
 -- a point taken out of the mask
-over-but : (c : List ℤ) (e w n k : ℕ) (f : ℕ → Bool)
-    → over (λ q. cond (eqb q w) [] (only (stepped c q e))) (those n k f) ≡ steps c e (those n k (λ i. f i && not (eqb i w)))
+over-but : (c : List ℤ) (e : ℕ) (w : Option ℕ) (n k : ℕ) (f : ℕ → Bool)
+    → over (λ q. cond (left_out w q) [] (only (stepped c q e))) (those n k f) ≡ steps c e (those n k (λ i. f i && not (left_out w i)))
 unfolding those
 over-but c e w zero k f = refl
-over-but c e w (suc n) k f = go (f k) (eqb k w) refl (over-but c e w n (suc k) f)
+over-but c e w (suc n) k f = go (f k) (left_out w k) refl (over-but c e w n (suc k) f)
   where
     g : ℕ → List (List ℤ)
-    g q = cond (eqb q w) [] (only (stepped c q e))
+    g q = cond (left_out w q) [] (only (stepped c q e))
 
-    go : (s t : Bool) → eqb k w ≡ t → over g (those n (suc k) f) ≡ steps c e (those n (suc k) (λ i. f i && not (eqb i w)))
-        → over g (keep s k (those n (suc k) f)) ≡ steps c e (keep (s && not t) k (those n (suc k) (λ i. f i && not (eqb i w))))
+    go : (s t : Bool) → left_out w k ≡ t → over g (those n (suc k) f) ≡ steps c e (those n (suc k) (λ i. f i && not (left_out w i)))
+        → over g (keep s k (those n (suc k) f)) ≡ steps c e (keep (s && not t) k (those n (suc k) (λ i. f i && not (left_out w i))))
     go false t z ih = ih
     go true true z ih = rw z ih
     go true false z ih = rw z (ap (λ l. stepped c k e ∷ l) ih)
@@ -158,13 +159,13 @@ module _ {b : List ℤ} {x free d : ℕ} (k : Kept b x free) (die : Die d) where
     down-all = sym (over-only b d (those_down 25 (bit (origins_mask x free d top)))) ∙ down-over (λ p. only)
 
     -- but for one origin
-    pub up-but : (w r : ℕ) → IsMask (λ i. bit (origins_mask x free d top) i && not (eqb i w)) r → steps b d (those 25 0 (bit r)) ≡ up_but b d w top
+    pub up-but : (w : Option ℕ) (r : ℕ) → IsMask (λ i. bit (origins_mask x free d top) i && not (left_out w i)) r → steps b d (those 25 0 (bit r)) ≡ up_but b d w top
     unfolding up_but after
     up-but w r m =
-        ap (steps b d) (those-mask 25 (λ i. bit (origins_mask x free d top) i && not (eqb i w)) r m)
-        ∙ sym (over-but b d w 25 0 (bit (origins_mask x free d top))) ∙ up-over (λ q a. cond (eqb q w) [] (only a))
-        ∙ up-ext top (λ q. after b d (λ a. cond (eqb q w) [] (only a)) q) (λ q. cond (eqb q w) [] (after b d only q))
-        (λ q i j. swap (can_step b q d) (eqb q w) (stepped b q d))
+        ap (steps b d) (those-mask 25 (λ i. bit (origins_mask x free d top) i && not (left_out w i)) r m)
+        ∙ sym (over-but b d w 25 0 (bit (origins_mask x free d top))) ∙ up-over (λ q a. cond (left_out w q) [] (only a))
+        ∙ up-ext top (λ q. after b d (λ a. cond (left_out w q) [] (only a)) q) (λ q. cond (left_out w q) [] (after b d only q))
+        (λ q i j. swap (can_step b q d) (left_out w q) (stepped b q d))
       where
         swap : (s t : Bool) (a : List ℤ) → cond s (cond t [] (only a)) [] ≡ cond t [] (cond s (only a) [])
         swap true t a = refl

@@ -5,12 +5,8 @@ use Rattle.ints.specs.Answer.{Answer, value, refused}
 use Rattle.ints.specs.Twos.{twos}
 use Rattle.dice.specs.Dice.{is_die}
 use Rattle.position.specs.Board.{Accepted, start_refusal}
-use Rattle.position.specs.Answers.{board_answer}
-use Rattle.position.specs.declared.BoardAnswer.{BoardAnswer}
+use Rattle.position.specs.Answers.{BoardAnswer, board_answer}
 use Rattle.rules.specs.Ends.{switched_ends_of}
-use Rattle.moves.specs.declared.Listed.{Listed}
-use Rattle.moves.specs.declared.Listed.TheVariants.{Short}
-use Rattle.moves.specs.declared.Counted.{Counted}
 
 -- "Refusal numbers", order: board 1 to 4, then 6, 5, 7; 0 for none
 unfoldable pub play_refusal : ℕ → List ℤ → ℕ → ℕ → ℕ
@@ -59,14 +55,3 @@ end_refusal n b d1 d2 k =
 -- "Steps and ends": the end by its number, counted from 0 in list order, as a board with sides switched
 unfoldable pub end_answer : ℕ → List ℤ → ℕ → ℕ → ℕ → BoardAnswer
 end_answer n b d1 d2 k = board_answer (end_refusal n b d1 d2 k) (get_or (switched_ends_of b d1 d2) k [])
-
--- "Refusal numbers": what each case of a listing's answer says; `Short` is refusal 10, which carries the number of ends
-abbrev pub list_told : Listed → Answer
-list_told (Listed.Count n) = value n
-list_told (Short n) = refused 10 n
-list_told (Listed.Refused k) = refused k 0
-
--- what each case of a count's answer says
-abbrev pub count_told : Counted → Answer
-count_told (Counted.Count n) = value n
-count_told (Counted.Refused k) = refused k 0

@@ -8,13 +8,12 @@ use Rattle.ints.specs.Answer.{packed}
 use Rattle.ints.proofs.Tests.{one_answer}
 use Rattle.position.specs.Board.{checkers, refusal_of}
 use Rattle.position.specs.Phase.{phase_answer}
-use Rattle.position.specs.declared.BoardAnswer.{BoardAnswer}
+use Rattle.position.specs.Answers.{BoardAnswer}
 use Rattle.moves.specs.Answers.{list_answer, listed_in, count_answer}
-use Rattle.key.specs.declared.KeyAnswer.{KeyAnswer}
+use Rattle.key.specs.Key.{KeyAnswer}
 use Rattle.card.specs.Game.{turns_most}
 use Rattle.card.specs.Read.{read_answer}
-use Rattle.card.specs.Answers.{begin_answer, begun_in, add_answer, added_in}
-use Rattle.card.specs.declared.PositionAnswer.{PositionAnswer}
+use Rattle.card.specs.Answers.{PositionAnswer, begin_answer, begun_in, add_answer, added_in}
 use Rattle.inputs.specs.Answers.{InputAnswer, contact_answer, contact_lent, race_answer, race_lent}
 use Rattle.munchalep.specs.Lent.{Put, PutKey, PutInput}
 use Rattle.munchalep.specs.LentCard.{PutPosition}

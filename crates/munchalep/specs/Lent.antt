@@ -2,8 +2,8 @@
 use Rattle.std.specs.Prelude.{◌≡◌, cond, List, ℕ, eqb, ℤ}
 use Rattle.std.specs.Float.{binary32}
 use Rattle.std.specs.Float.Ieee.{to_bits}
-use Rattle.position.specs.declared.BoardAnswer.{BoardAnswer}
-use Rattle.key.specs.declared.KeyAnswer.{KeyAnswer}
+use Rattle.position.specs.Answers.{BoardAnswer}
+use Rattle.key.specs.Key.{KeyAnswer}
 use Rattle.inputs.specs.Answers.{InputAnswer, given, not}
 
 -- what the out parameter holds afterwards: what is answered, or what it held where the answer is a refusal

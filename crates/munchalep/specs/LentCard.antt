@@ -1,6 +1,6 @@
 -- A card's position that is answered into lent memory (document 01, "Refusal numbers": lent memory stays where a call is refused).
 use Rattle.std.specs.Prelude.{◌≡◌, List, ℕ, ◌+◌, ◌*◌, ℤ}
-use Rattle.card.specs.declared.PositionAnswer.{PositionAnswer}
+use Rattle.card.specs.Answers.{PositionAnswer}
 use Rattle.munchalep.specs.Lent.{after}
 
 -- the number r and the out parameter after an answer: the refusal's number, 0 for none, and 256 times its place in the card; and every

@@ -1,19 +1,17 @@
 // The game card in C. A number of turns, a new length, or the byte where a refused record begins stands above the refusal's number.
-ghost use Rattle.std.specs.Prelude.{◌≡◌, ◌≤◌, length};
-ghost use Rattle.ints.specs.Answer.{packed, carried};
+ghost use Rattle.std.specs.Prelude.{◌≡◌, length};
+ghost use Rattle.ints.specs.Answer.{packed};
 ghost use Rattle.position.specs.Board.{checkers};
 ghost use Rattle.card.specs.Game.{turns_most};
 ghost use Rattle.card.specs.Read.{read_answer};
-ghost use Rattle.card.specs.Answers.{card_told, position_answer, begin_answer, begun_in, add_answer, added_in};
+ghost use Rattle.card.specs.Answers.{position_answer, begin_answer, begun_in, add_answer, added_in};
 ghost use Rattle.munchalep.specs.LentCard.{PutPosition};
-
-use card::{CardAnswer, PositionAnswer};
 
 // Begins a card in the buffer, from a board.
 pub fn munchalep_card_begin(board: &[i8; 26], buffer: &mut [u8]) -> u64
     ensures { (result ≡ packed (begin_answer checkers board.now (length buffer.old))) × (buffer.new ≡ begun_in checkers board.now buffer.old) }
 {
-    card_number(card::begin(*board, buffer))
+    crate::answer_number(card::begin(*board, buffer))
 }
 
 // Adds a turn to the card in the first `length` bytes of the buffer. The end is given with sides switched.
@@ -26,44 +24,25 @@ pub fn munchalep_card_add(
 ) -> u64
     ensures { (result ≡ packed (add_answer checkers turns_most buffer.old length die1 die2 end.now)) × (buffer.new ≡ added_in checkers turns_most buffer.old length die1 die2 end.now) }
 {
-    card_number(card::add(buffer, length, die1, die2, *end))
+    crate::answer_number(card::add(buffer, length, die1, die2, *end))
 }
 
 // Reads a card: the number of its turns.
 pub fn munchalep_card_read(card: &[u8]) -> u64
     ensures { result ≡ packed (read_answer checkers turns_most card.now) }
 {
-    card_number(card::read(card))
+    crate::answer_number(card::read(card))
 }
 
 // The position of a card with a number, 0 the start.
 pub fn munchalep_card_position(card: &[u8], number: usize, out: &mut [i8; 26]) -> u64
     ensures { PutPosition (position_answer checkers turns_most card.now number) out.old result out.new }
 {
-    put_position(card::position(card, number), out)
-}
-
-// What each case of a card's answer says: 256 times the value; or the refusal's number, and 256 times its place.
-fn card_number(answer: CardAnswer) -> u64
-    requires { carried (card_told answer) ≤ 5017 }
-    ensures { result ≡ packed (card_told answer) }
-{
-    match answer {
-        CardAnswer::Value(n) => 256 * (n as u64),
-        CardAnswer::Refused(refusal) => refusal.number as u64 + 256 * (refusal.at as u64),
+    match card::position(card, number) {
+        Ok(board) => {
+            *out = board;
+            0
+        }
+        Err(refused) => crate::refused_number(refused),
     }
-}
-
-// The number of a position's answer, and 256 times its place; its board, if it has one, goes to `out`.
-fn put_position(answer: PositionAnswer, out: &mut [i8; 26]) -> u64
-    requires { answer.at ≤ 5012 }
-    ensures { PutPosition answer out.old result out.new }
-{
-    let number = answer.refused as u64 + 256 * (answer.at as u64);
-    if answer.refused != 0 {
-        return number;
-    }
-    let board = answer.board;
-    *out = board;
-    number
 }

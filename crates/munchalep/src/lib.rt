@@ -6,26 +6,26 @@
 pub mod game_card;
 pub mod recover;
 
-ghost use Rattle.std.specs.Prelude.{◌≡◌, ◌≤◌, T, length};
+ghost use Rattle.std.specs.Prelude.{◌≡◌, ◌+◌, ◌*◌, ◌≤◌, T, length};
+ghost use Rattle.std.specs.Result.{result_unwrap_or};
 ghost use Rattle.ints.specs.Answer.{packed, carried};
+ghost use Rattle.ints.specs.Refusals.{number, refusal_in, told_with};
 ghost use Rattle.position.specs.Board.{checkers, refusal_of};
 ghost use Rattle.position.specs.Phase.{phase_answer};
-ghost use Rattle.position.specs.Answers.{switch_answer, step_answer, phase_told};
-ghost use Rattle.moves.specs.Answers.{list_told, list_answer, listed_in, count_told, count_answer, end_answer};
+ghost use Rattle.position.specs.Answers.{switch_answer, step_answer};
+ghost use Rattle.moves.specs.Answers.{list_answer, listed_in, count_answer, end_answer};
 ghost use Rattle.key.specs.Key.{key_answer, board_of_key_answer};
-ghost use Rattle.inputs.specs.Answers.{is_number, filled_told, input_told, contact_answer, contact_lent, contact_input, race_answer, race_lent, race_input};
+ghost use Rattle.inputs.specs.Answers.{is_number, input_told, contact_answer, contact_lent, contact_input, race_answer, race_lent, race_input};
 ghost use Rattle.munchalep.specs.Lent.{Put, PutKey, PutInput};
 
-use inputs::{Filled, Input};
-use moves::{Counted, Listed};
-use position::BoardAnswer;
-use position::phase::GamePhase;
+use inputs::{Contact, Race};
+use ints::refusal::{Refusal, Refused};
 
 // The refusal of a board, 1 to 4, or 0.
 pub fn munchalep_check(board: &[i8; 26]) -> u64
     ensures { result ≡ refusal_of checkers board.now }
 {
-    position::refusal(*board) as u64
+    refusal_number(position::check(*board))
 }
 
 // The board seen from the other side.
@@ -46,14 +46,7 @@ pub fn munchalep_step(board: &[i8; 26], from: usize, die: usize, out: &mut [i8; 
 pub fn munchalep_key(board: &[i8; 26], key: &mut [u8; 10]) -> u64
     ensures { PutKey (key_answer checkers board.now) key.old result key.new }
 {
-    let answer = key::encode(*board);
-    let number = answer.refused;
-    if number != 0 {
-        return number as u64;
-    }
-    let bytes = answer.key;
-    *key = bytes;
-    0
+    put(key::encode(*board), key)
 }
 
 // The board of the key.
@@ -67,21 +60,24 @@ pub fn munchalep_board_of_key(key: &[u8; 10], out: &mut [i8; 26]) -> u64
 pub fn munchalep_result(board: &[i8; 26]) -> u64
     ensures { result ≡ packed (phase_answer checkers board.now) }
 {
-    number(position::phase::game_phase(*board))
+    match position::phase::game_phase(*board) {
+        Ok(phase) => 256 * (phase.number() as u64),
+        Err(why) => why.number() as u64,
+    }
 }
 
 // Lists the ends of a roll, 26 bytes an end, and answers their number; a list that is too short for them stays as it was.
 pub fn munchalep_list(board: &[i8; 26], die1: usize, die2: usize, list: &mut [u8]) -> u64
     ensures { (result ≡ packed (list_answer checkers board.now die1 die2 (length list.old))) × (list.new ≡ listed_in checkers board.now die1 die2 list.old) }
 {
-    listed_number(moves::list(*board, die1, die2, list))
+    answer_number(moves::list(*board, die1, die2, list))
 }
 
 // The number of ends of a roll.
 pub fn munchalep_count(board: &[i8; 26], die1: usize, die2: usize) -> u64
     ensures { result ≡ packed (count_answer checkers board.now die1 die2) }
 {
-    counted_number(moves::count(*board, die1, die2))
+    answer_number(moves::count(*board, die1, die2).map_err(Refused::from))
 }
 
 // The end of a roll with a number, counted from 0, sides switched.
@@ -102,103 +98,75 @@ pub fn munchalep_end(
 pub fn munchalep_contact_inputs(board: &[i8; 26], inputs: &mut [u32]) -> u64
     ensures { (result ≡ packed (contact_answer checkers board.now (length inputs.old))) × (inputs.new ≡ contact_lent checkers board.now inputs.old) }
 {
-    filled_number(inputs::contact_inputs(board, inputs))
+    refusal_number(inputs::fill::<Contact>(board, inputs))
 }
 
 // The same of the race net and exactly 186 floats.
 pub fn munchalep_race_inputs(board: &[i8; 26], inputs: &mut [u32]) -> u64
     ensures { (result ≡ packed (race_answer checkers board.now (length inputs.old))) × (inputs.new ≡ race_lent checkers board.now inputs.old) }
 {
-    filled_number(inputs::race_inputs(board, inputs))
+    refusal_number(inputs::fill::<Race>(board, inputs))
 }
 
 // The contact net's input that has the place.
 pub fn munchalep_contact_input(board: &[i8; 26], place: usize, out: &mut u32) -> u64
     ensures { PutInput (contact_input checkers board.now place) out.old result out.new }
 {
-    put_input(inputs::contact_input(*board, place), out)
+    put_input(inputs::input::<Contact>(*board, place), out)
 }
 
 // The race net's input that has the place.
 pub fn munchalep_race_input(board: &[i8; 26], place: usize, out: &mut u32) -> u64
     ensures { PutInput (race_input checkers board.now place) out.old result out.new }
 {
-    put_input(inputs::race_input(*board, place), out)
+    put_input(inputs::input::<Race>(*board, place), out)
 }
 
-// What each case of filling answers: 0, or the refusal's number.
-fn filled_number(answer: Filled) -> u64
-    ensures { result ≡ packed (filled_told answer) }
+// The number of an answer's refusal, 0 for none.
+fn refusal_number<T: Copy>(answer: Result<T, Refusal>) -> u64
+    ensures { result ≡ refusal_in answer }
 {
     match answer {
-        Filled::Done => 0,
-        Filled::Refused(number) => number as u64,
+        Ok(_) => 0,
+        Err(why) => why.number() as u64,
     }
 }
 
-// The number of one input's answer; the bits of its value, if it has one, go to `out`.
-fn put_input(answer: Input, out: &mut u32) -> u64
+// The same; and what is answered, if it is not refused, goes to `out`.
+fn put<T: Copy>(answer: Result<T, Refusal>, out: &mut T) -> u64
+    ensures number { result ≡ refusal_in answer }
+    ensures lent { out.new ≡ result_unwrap_or answer out.old }
+{
+    *out = answer.unwrap_or(*out);
+    refusal_number(answer)
+}
+
+// The same of one input, whose bits go to `out`.
+fn put_input(answer: Result<f32, Refusal>, out: &mut u32) -> u64
     requires { T (is_number (input_told answer)) }
     ensures { PutInput (input_told answer) out.old result out.new }
 {
     match answer {
-        Input::Value(value) => {
-            *out = inputs::bits_of(value);
-            0
-        }
-        Input::Refused(number) => number as u64,
+        Ok(value) => put(Ok(inputs::bits_of(value)), out),
+        Err(why) => put(Err(why), out),
     }
 }
 
-// What each case of a listing answers: 256 times the number of ends, and 10 beside it where the list is short; or the refusal's number.
-fn listed_number(answer: Listed) -> u64
-    requires { carried (list_told answer) ≤ 17550 }
-    ensures { result ≡ packed (list_told answer) }
+// The number of an answer that is a number itself: 256 times that; or the refusal's number, and 256 times what it carries.
+fn answer_number(answer: Result<usize, Refused>) -> u64
+    requires { carried (told_with answer) ≤ 17550 }
+    ensures { result ≡ packed (told_with answer) }
 {
     match answer {
-        Listed::Count(n) => 256 * (n as u64),
-        Listed::Short(n) => 10 + 256 * (n as u64),
-        Listed::Refused(number) => number as u64,
+        Ok(n) => 256 * (n as u64),
+        Err(refused) => refused_number(refused),
     }
 }
 
-// What each case of a count answers: 256 times the number of ends, or the refusal's number.
-fn counted_number(answer: Counted) -> u64
-    requires { carried (count_told answer) ≤ 17550 }
-    ensures { result ≡ packed (count_told answer) }
+// A refusal's number, and 256 times what it carries.
+fn refused_number(refused: Refused) -> u64
+    requires { refused.carried ≤ 17550 }
+    ensures { result ≡ number refused.why + 256 * refused.carried }
 {
-    match answer {
-        Counted::Count(n) => 256 * (n as u64),
-        Counted::Refused(number) => number as u64,
-    }
-}
-
-// The answer's number; its board, if it has one, goes to `out`.
-fn put(answer: BoardAnswer, out: &mut [i8; 26]) -> u64
-    ensures { Put answer out.old result out.new }
-{
-    let refused = answer.refused;
-    if refused != 0 {
-        return refused as u64;
-    }
-    let board = answer.board;
-    *out = board;
-    0
-}
-
-// What each case of result and phase answers: 256 times its number, or the refusal's.
-fn number(phase: GamePhase) -> u64
-    ensures { result ≡ packed (phase_told phase) }
-{
-    match phase {
-        GamePhase::Contact => 0,
-        GamePhase::Race => 256,
-        GamePhase::WinNormal => 2 * 256,
-        GamePhase::WinGammon => 3 * 256,
-        GamePhase::WinBg => 4 * 256,
-        GamePhase::LoseNormal => 5 * 256,
-        GamePhase::LoseGammon => 6 * 256,
-        GamePhase::LoseBg => 7 * 256,
-        GamePhase::Refused(number) => number as u64,
-    }
+    refused.why.number() as u64 + 256 * (refused.carried as u64)
 }

@@ -1,17 +1,16 @@
 -- What the entries answer, as the code's tests go.
 -- Assumes nothing.
-use mathlib.Core.Path.{◌≡◌, ap₂}
-use mathlib.Core.Bool.{true, false}
-use mathlib.Core.List.{List}
-use Prim.Native.Nat.{ℕ, ◌≤◌, ◌<◌}
+use Rattle.std.proofs.Common.{◌≡◌, refl, sym, ap, ap₂, subst, ◌∙◌, true, false, List, ℕ, ◌≤◌, ◌<◌, ℤ, Result, Ok, Err}
 use native.Mathlib.Omega.{arith}
 use borrow.Author.Tests.{lt-ltb, le-ltb, ne_eqb}
-use lib.IntN.{ℤ}
+use Rattle.ints.specs.Refusals.{number, refusal_in}
+use Rattle.ints.specs.declared.refusal.Refusal.{Refusal}
+use Rattle.ints.proofs.Refusals.{number-pos}
 use Rattle.dice.specs.Dice.{is_die}
-use Rattle.position.specs.Board.{refusal_of}
+use Rattle.position.specs.Board.{Accepted, x_all, o_all, refusal_of}
 use Rattle.position.specs.Step.{can_step, step_refusal}
-use Rattle.position.specs.Answers.{no_board, board_answer}
-use Rattle.position.specs.declared.BoardAnswer.{BoardAnswer}
+use Rattle.position.specs.Answers.{BoardAnswer, Counted, no_board, board_answer, board_told}
+use Rattle.position.specs.declared.Checkers.{Checkers}
 
 abbrev whole : ℕ → List ℤ → BoardAnswer
 whole k b = record { refused = k; board = b }
@@ -25,6 +24,29 @@ module _ (r : BoardAnswer) (b : List ℤ) where
   pub answered-is : r.refused ≡ 0 → r.board ≡ b → r ≡ board_answer 0 b
   unfolding board_answer
   answered-is e s = ap₂ whole e s
+
+-- a board's refusal, told, and a board
+pub err-told : (r : Refusal) (b : List ℤ) (k : ℕ) → number r ≡ k → board_told (Err r) ≡ board_answer k b
+err-told r b k e = refused-is (board_told (Err r)) b k (omega (arith, e, number-pos r)) e refl
+
+pub ok-told : (b : List ℤ) → board_told (Ok b) ≡ board_answer 0 b
+ok-told b = answered-is (board_told (Ok b)) b refl refl
+
+-- what is known where the check of a board is passed
+pub record Passed (n : ℕ) (b : List ℤ) (all : Checkers) : Type 0 where
+  pub ok : refusal_of n b ≡ 0
+  pub accepted : Accepted n b
+  pub x : all.x ≡ x_all b
+  pub o : all.o ≡ o_all b
+
+module _ {n : ℕ} {b : List ℤ} {r : Result Checkers Refusal} (k : Counted n b r) where
+  pub passed : {all : Checkers} → r ≡ Ok all → Passed n b all
+  passed {all} e =
+      let j : Counted n b (Ok all) = subst (Counted n b) e k in
+      record { ok = sym j.judged.is; accepted = j.judged.ok refl; x = j.counts.0; o = j.counts.1 }
+
+  pub refused-by : {why : Refusal} → r ≡ Err why → number why ≡ refusal_of n b
+  refused-by e = sym (ap refusal_in e) ∙ k.judged.is
 
 -- a step's refusal, by the first test that holds
 module _ (n : ℕ) (b : List ℤ) (p d : ℕ) where

@@ -1,12 +1,13 @@
 -- What the entries answer (document 01, "Refusal numbers": a refusal's answer holds its number and nothing else).
-use Rattle.std.specs.Prelude.{◌≡◌, cond, List, ℕ, eqb, ℤ, pos, replicate}
+use Rattle.std.specs.Prelude.{◌≡◌, cond, List, ℕ, eqb, ℤ, pos, replicate, Result, Ok, Err, IfOk}
 use Rattle.ints.specs.Answer.{Answer, value, refused}
+use Rattle.ints.specs.Refusals.{number, refusal_in}
+use Rattle.ints.specs.declared.refusal.Refusal.{Refusal}
 use Rattle.position.specs.Board.{Accepted, x_all, o_all, refusal_of, start_refusal, switched}
 use Rattle.position.specs.Step.{stepped, step_refusal}
-use Rattle.position.specs.declared.BoardAnswer.{BoardAnswer}
-use Rattle.position.specs.declared.Checked.{Checked}
+use Rattle.position.specs.declared.Checkers.{Checkers}
 use Rattle.position.specs.declared.phase.GamePhase.{GamePhase}
-use Rattle.position.specs.declared.phase.GamePhase.TheVariants.{Contact, Race, WinNormal, WinGammon, WinBg, LoseNormal, LoseGammon, LoseBg, Refused}
+use Rattle.position.specs.declared.phase.GamePhase.TheVariants.{Contact, Race, WinNormal, WinGammon, WinBg, LoseNormal, LoseGammon, LoseBg}
 
 -- what the check of a board answers: its refusal, and where that is 0 the board is accepted
 pub record Judged (n : ℕ) (b : List ℤ) (r : ℕ) : Type 0 where
@@ -18,11 +19,15 @@ pub record Started (n : ℕ) (b : List ℤ) (r : ℕ) : Type 0 where
   pub is : r ≡ start_refusal n b
   pub ok : r ≡ 0 → Accepted n b
 
--- the check of a board with both sides' checkers counted
-pub record Counted (n : ℕ) (b : List ℤ) (r : Checked) : Type 0 where
-  pub judged : Judged n b r.refused
-  pub x : r.all.x ≡ x_all b
-  pub o : r.all.o ≡ o_all b
+-- the check of a board that counts both sides' checkers
+pub record Counted (n : ℕ) (b : List ℤ) (r : Result Checkers Refusal) : Type 0 where
+  pub judged : Judged n b (refusal_in r)
+  pub counts : IfOk r (λ all. (all.x ≡ x_all b) × (all.o ≡ o_all b))
+
+-- a refusal's number, 0 for none, and a board
+pub record BoardAnswer : Type 0 where
+  pub refused : ℕ
+  pub board : List ℤ
 
 -- what stands beside a refusal's number in place of a board: zeros
 abbrev pub no_board : List ℤ
@@ -32,6 +37,11 @@ no_board = replicate 26 (pos 0)
 unfoldable pub board_answer : ℕ → List ℤ → BoardAnswer
 board_answer k b = record { refused = k; board = cond (eqb k 0) b no_board }
 
+-- what each case of an answer says that is a board or a refusal
+abbrev pub board_told : Result (List ℤ) Refusal → BoardAnswer
+board_told (Ok b) = record { refused = 0; board = b }
+board_told (Err r) = record { refused = number r; board = no_board }
+
 -- "Side switch": the switched board, or the board's refusal
 unfoldable pub switch_answer : ℕ → List ℤ → BoardAnswer
 switch_answer n b = board_answer (refusal_of n b) (switched b)
@@ -40,14 +50,18 @@ switch_answer n b = board_answer (refusal_of n b) (switched b)
 unfoldable pub step_answer : ℕ → List ℤ → ℕ → ℕ → BoardAnswer
 step_answer n b p d = board_answer (step_refusal n b p d) (stepped b p d)
 
--- "Result and phase", order of numbers: what each case of the answer says
-abbrev pub phase_told : GamePhase → Answer
-phase_told Contact = value 0
-phase_told Race = value 1
-phase_told WinNormal = value 2
-phase_told WinGammon = value 3
-phase_told WinBg = value 4
-phase_told LoseNormal = value 5
-phase_told LoseGammon = value 6
-phase_told LoseBg = value 7
-phase_told (Refused n) = refused n 0
+-- "Result and phase", order of numbers
+abbrev pub phase_number : GamePhase → ℕ
+phase_number Contact = 0
+phase_number Race = 1
+phase_number WinNormal = 2
+phase_number WinGammon = 3
+phase_number WinBg = 4
+phase_number LoseNormal = 5
+phase_number LoseGammon = 6
+phase_number LoseBg = 7
+
+-- "Result and phase": what each case of the answer says
+abbrev pub phase_told : Result GamePhase Refusal → Answer
+phase_told (Ok p) = value (phase_number p)
+phase_told (Err r) = refused (number r) 0

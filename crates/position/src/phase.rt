@@ -2,69 +2,73 @@
 ghost use Rattle.std.specs.Prelude.{◌≡◌};
 ghost use Rattle.position.specs.Board.{checkers, xs, os};
 ghost use Rattle.position.specs.Phase.{highest, lowest, phase_answer};
-ghost use Rattle.position.specs.Answers.{phase_told};
+ghost use Rattle.position.specs.Answers.{phase_number, phase_told};
 
-// How the game stands for x, or the number of the refusal.
-#[derive(Drop)]
+use crate::Checkers;
+use ints::refusal::Refusal;
+
+// How the game stands for x, each with document 01's number.
+#[derive(Clone, Copy, Debug, PartialEq, Eq)]
 pub enum GamePhase {
-    Contact,
-    Race,
-    WinNormal,
-    WinGammon,
-    WinBg,
-    LoseNormal,
-    LoseGammon,
-    LoseBg,
-    Refused(u8),
+    Contact = 0,
+    Race = 1,
+    WinNormal = 2,
+    WinGammon = 3,
+    WinBg = 4,
+    LoseNormal = 5,
+    LoseGammon = 6,
+    LoseBg = 7,
 }
 
-// Result or phase of any 26 entries: refused by 1 to 4, and by 6 where neither side has a checker on the board.
-pub fn game_phase(b: [i8; 26]) -> GamePhase
+impl GamePhase {
+    // The number of result or phase.
+    pub fn number(self) -> u8
+        ensures { result ≡ phase_number self }
+    {
+        self as u8
+    }
+}
+
+// Result or phase of any 26 entries, or the refusal: of the entries, or of a board on which neither side has a checker.
+pub fn game_phase(b: [i8; 26]) -> Result<GamePhase, Refusal>
     ensures { phase_told result ≡ phase_answer checkers b }
 {
-    let checked = crate::check(b);
-    if checked.refused != 0 {
-        return GamePhase::Refused(checked.refused);
-    }
-    let x = checked.all.x;
-    let o = checked.all.o;
+    let Checkers { x, o } = crate::check(b)?;
     if x == 0 {
         if o == 0 {
-            return GamePhase::Refused(6);
+            return Err(Refusal::EmptyBoard);
         }
         if o < crate::NUM_OF_CHECKERS {
-            return GamePhase::WinNormal;
+            return Ok(GamePhase::WinNormal);
         }
         if crate::checkers_below(&b, 7).o > 0 {
-            return GamePhase::WinBg;
+            return Ok(GamePhase::WinBg);
         }
-        return GamePhase::WinGammon;
+        return Ok(GamePhase::WinGammon);
     }
     if o == 0 {
         if x < crate::NUM_OF_CHECKERS {
-            return GamePhase::LoseNormal;
+            return Ok(GamePhase::LoseNormal);
         }
         if crate::checkers_below(&b, 19).x < x {
-            return GamePhase::LoseBg;
+            return Ok(GamePhase::LoseBg);
         }
-        return GamePhase::LoseGammon;
+        return Ok(GamePhase::LoseGammon);
     }
     if lowest_o(&b) < highest_x(&b) {
-        return GamePhase::Contact;
+        return Ok(GamePhase::Contact);
     }
-    GamePhase::Race
+    Ok(GamePhase::Race)
 }
 
 // The highest entry that holds x, else 0.
 fn highest_x(b: &[i8; 26]) -> usize
     ensures { result ≡ highest (xs b.now) 26 }
 {
-    let mut i = 26;
-    while 0 < i {
-        if b[i - 1] > 0 {
-            return i - 1;
+    for i in (0..26).rev() {
+        if b[i] > 0 {
+            return i;
         }
-        i -= 1;
     }
     0
 }
@@ -73,12 +77,10 @@ fn highest_x(b: &[i8; 26]) -> usize
 fn lowest_o(b: &[i8; 26]) -> usize
     ensures { result ≡ lowest (os b.now) 0 26 }
 {
-    let mut i = 0;
-    while i < 26 {
+    for i in 0..26 {
         if b[i] < 0 {
             return i;
         }
-        i += 1;
     }
     26
 }

@@ -6,147 +6,116 @@
 // bits.
 #![tactic(auto)]
 
-ghost use Rattle.std.specs.Prelude.{◌≤◌};
-
-use std::fs::File;
+use ints::refusal::Refusal;
 use std::io;
-use stored::{MOST, Tally};
 
 const RECORD: usize = 232;
 
 // Floats that a record has room for: one more than the contact net has.
 const FLOATS: usize = 203;
 
-// Where they begin in a record.
-const FIRST: usize = 29;
-
 // What a float that stays holds: the bits of a NaN, which no input has.
 const STAYS: u32 = 0x7FA5_5A55;
 
 fn main(rt: HostRuntime) -> io::Result<()> {
-    let path = "inputs.bin";
-    let mut file = match File::open(&rt, path) {
-        Ok(file) => file,
-        Err(error) => return stored::tell_unopened(&rt, path.as_bytes(), error),
-    };
-    let tally = replay(&mut file)?;
-    stored::tell(
-        &rt,
-        path.as_bytes(),
-        b"answers",
-        b"less than a million whole records of 232 bytes",
-        tally,
-    )
-}
-
-// Replays the records of a file, one after another.
-fn replay(file: &mut File) -> io::Result<Tally> {
-    let mut differ: u64 = 0;
-    for replayed in 0..MOST {
-        let mut record = [0u8; RECORD];
-        let got = stored::read_full(file, &mut record)?;
-        if got != RECORD {
-            return Ok(Tally {
-                replayed,
-                differ,
-                whole: got == 0,
-            });
-        }
-        differ += differs(&record);
-    }
-    Ok(Tally {
-        replayed: MOST,
-        differ,
-        whole: false,
+    stored::replay(&rt, "inputs.bin", "answers", |record: &[u8; RECORD]| {
+        !Stored::from(*record).holds()
     })
 }
 
-// 1 where an answer, or a lent float, is not the stored one, else 0.
-fn differs(record: &[u8]) -> u64
-    ensures { result ≤ 1 }
-{
-    let length = length(record);
-    if length > FLOATS {
-        return 1;
-    }
-    let board = stored::board(record, 2);
-    let mut floats = [STAYS; FLOATS];
-    if fill(stored::byte(record, 0), &board, &mut floats[..length]) != refusal(record) {
-        return 1;
-    }
-    if !holds(&floats, record) {
-        return 1;
-    }
-    // A slice of a wrong length says nothing of the inputs.
-    if refusal(record) == 13 {
-        return 0;
-    }
-    if !places_hold(&board, record) {
-        return 1;
-    }
-    0
+// A stored answer.
+#[derive(Clone, Copy, Debug, PartialEq, Eq)]
+struct Stored {
+    net: Net,
+    length: usize,
+    board: [i8; 26],
+    refusal: u64,
+    floats: [u32; FLOATS],
 }
 
-// Lends the floats to the net's entry.
-fn fill(net: u8, board: &[i8; 26], floats: &mut [u32]) -> u64 {
-    if net == 0 {
-        return munchalep::munchalep_contact_inputs(board, floats);
-    }
-    munchalep::munchalep_race_inputs(board, floats)
-}
-
-// Asks the net's entry for the input that has a place.
-fn ask(net: u8, board: &[i8; 26], place: usize, out: &mut u32) -> u64 {
-    if net == 0 {
-        return munchalep::munchalep_contact_input(board, place, out);
-    }
-    munchalep::munchalep_race_input(board, place, out)
-}
-
-// Whether the floats are the stored ones.
-fn holds(floats: &[u32; FLOATS], record: &[u8]) -> bool {
-    for i in 0..FLOATS {
-        if floats[i] != bits(stored::byte(record, FIRST + i)) {
-            return false;
+impl From<[u8; RECORD]> for Stored {
+    fn from(record: [u8; RECORD]) -> Stored {
+        Stored {
+            net: Net::from(record[0]),
+            length: usize::from(record[1]),
+            board: stored::board(&record, 2),
+            refusal: u64::from(record[28]),
+            floats: stored::bytes(&record, 29).map(bits),
         }
     }
-    true
 }
 
-// Whether each input by its place is the stored one, and none is given after the last.
-fn places_hold(board: &[i8; 26], record: &[u8]) -> bool {
-    for place in 0..FLOATS {
+impl Stored {
+    // Whether each answer, and each lent float, is the stored one. A slice of a wrong length says nothing of the inputs.
+    fn holds(&self) -> bool {
+        self.is_filled()
+            && (self.refusal == u64::from(Refusal::InputsNotExact.number()) || self.places_hold())
+    }
+
+    // Whether the floats are lent and filled as stored.
+    fn is_filled(&self) -> bool {
+        if self.length > FLOATS {
+            return false;
+        }
+        let mut floats = [STAYS; FLOATS];
+        self.net.fill(&self.board, &mut floats[..self.length]) == self.refusal
+            && floats == self.floats
+    }
+
+    // Whether each input by its place is the stored one, and none is given after the last.
+    fn places_hold(&self) -> bool {
+        self.floats
+            .iter()
+            .enumerate()
+            .all(|(place, float)| self.place_holds(place, *float))
+    }
+
+    fn place_holds(&self, place: usize, float: u32) -> bool {
         let mut out = STAYS;
-        if ask(stored::byte(record, 0), board, place, &mut out) != refusal_at(record, place) {
-            return false;
+        self.net.ask(&self.board, place, &mut out) == self.refusal_at(place) && out == float
+    }
+
+    // The refusal of an input by its place: that of the record, or 14 after the last.
+    fn refusal_at(&self, place: usize) -> u64 {
+        if self.refusal == 0 && self.length <= place {
+            return u64::from(Refusal::NoSuchInput.number());
         }
-        if out != bits(stored::byte(record, FIRST + place)) {
-            return false;
+        self.refusal
+    }
+}
+
+#[derive(Clone, Copy, Debug, PartialEq, Eq)]
+enum Net {
+    Contact,
+    Race,
+}
+
+// The net of a record's first byte.
+impl From<u8> for Net {
+    fn from(byte: u8) -> Net {
+        match byte {
+            0 => Net::Contact,
+            _ => Net::Race,
         }
     }
-    true
 }
 
-// The refusal of an input by its place: that of the record, or 14 after the last.
-fn refusal_at(record: &[u8], place: usize) -> u64 {
-    let refusal = refusal(record);
-    if refusal != 0 {
-        return refusal;
+impl Net {
+    // Lends the floats to the net's entry.
+    fn fill(self, board: &[i8; 26], floats: &mut [u32]) -> u64 {
+        match self {
+            Net::Contact => munchalep::munchalep_contact_inputs(board, floats),
+            Net::Race => munchalep::munchalep_race_inputs(board, floats),
+        }
     }
-    if place < length(record) {
-        return 0;
+
+    // Asks the net's entry for the input that has a place.
+    fn ask(self, board: &[i8; 26], place: usize, out: &mut u32) -> u64 {
+        match self {
+            Net::Contact => munchalep::munchalep_contact_input(board, place, out),
+            Net::Race => munchalep::munchalep_race_input(board, place, out),
+        }
     }
-    14
-}
-
-// How many floats the record lends.
-fn length(record: &[u8]) -> usize {
-    stored::wide(stored::byte(record, 1)) as usize
-}
-
-// The record's refusal.
-fn refusal(record: &[u8]) -> u64 {
-    stored::wide(stored::byte(record, 28))
 }
 
 // The bits of a stored float.
@@ -154,5 +123,5 @@ fn bits(byte: u8) -> u32 {
     if byte == 85 {
         return STAYS;
     }
-    f32::to_bits(byte as f32)
+    f32::from(byte).to_bits()
 }

@@ -5,99 +5,43 @@
 // the out parameter holds it afterwards: 85 in each byte where it stays as it was.
 #![tactic(auto)]
 
-ghost use Rattle.std.specs.Prelude.{◌≤◌};
-
-use std::fs::File;
 use std::io;
-use stored::{MOST, Tally};
 
 const RECORD: usize = 45;
 
 fn main(rt: HostRuntime) -> io::Result<()> {
-    let path = "key.bin";
-    let mut file = match File::open(&rt, path) {
-        Ok(file) => file,
-        Err(error) => return stored::tell_unopened(&rt, path.as_bytes(), error),
-    };
-    let tally = replay(&mut file)?;
-    stored::tell(
-        &rt,
-        path.as_bytes(),
-        b"answers",
-        b"less than a million whole records of 45 bytes",
-        tally,
-    )
+    stored::replay(&rt, "key.bin", "answers", differs)
 }
 
-// Replays the records of a file, one after another.
-fn replay(file: &mut File) -> io::Result<Tally> {
-    let mut differ: u64 = 0;
-    for replayed in 0..MOST {
-        let mut record = [0u8; RECORD];
-        let got = stored::read_full(file, &mut record)?;
-        if got != RECORD {
-            return Ok(Tally {
-                replayed,
-                differ,
-                whole: got == 0,
-            });
-        }
-        differ += differs(&record);
-    }
-    Ok(Tally {
-        replayed: MOST,
-        differ,
-        whole: false,
-    })
-}
-
-// 1 where the answer, or a byte of the out parameter, is not the stored one, else 0.
-fn differs(record: &[u8]) -> u64
-    ensures { result ≤ 1 }
-{
-    if stored::byte(record, 0) == 0 {
-        return written_differs(record);
-    }
-    read_differs(record)
-}
-
-// The same of the key that is written of the record's board.
-fn written_differs(record: &[u8]) -> u64
-    ensures { result ≤ 1 }
-{
+// Whether the answer, or a byte of the out parameter, is not the stored one.
+fn differs(record: &[u8; RECORD]) -> bool {
     let board = stored::board(record, 1);
-    let mut out = [85u8; 10];
-    if munchalep::munchalep_key(&board, &mut out) != stored::eight(record, 37) {
-        return 1;
-    }
-    for i in 0..10 {
-        if out[i] != stored::byte(record, 27 + i) {
-            return 1;
+    let key: [u8; 10] = stored::bytes(record, 27);
+    let answer = stored::eight(record, 37);
+    match Kind::from(record[0]) {
+        Kind::Write => {
+            let mut out = [85; 10];
+            munchalep::munchalep_key(&board, &mut out) != answer || out != key
+        }
+        Kind::Read => {
+            let mut out = [85; 26];
+            munchalep::munchalep_board_of_key(&key, &mut out) != answer || out != board
         }
     }
-    0
 }
 
-// The same of the board that is read of the record's key.
-fn read_differs(record: &[u8]) -> u64
-    ensures { result ≤ 1 }
-{
-    let key = key(record);
-    let mut out = [85i8; 26];
-    if munchalep::munchalep_board_of_key(&key, &mut out) != stored::eight(record, 37) {
-        return 1;
-    }
-    if !stored::is_board(&out, record, 1) {
-        return 1;
-    }
-    0
+#[derive(Clone, Copy, Debug, PartialEq, Eq)]
+enum Kind {
+    Write,
+    Read,
 }
 
-// The record's key.
-fn key(record: &[u8]) -> [u8; 10] {
-    let mut key = [0u8; 10];
-    for i in 0..10 {
-        key[i] = stored::byte(record, 27 + i);
+// The kind of a record's first byte.
+impl From<u8> for Kind {
+    fn from(byte: u8) -> Kind {
+        match byte {
+            0 => Kind::Write,
+            _ => Kind::Read,
+        }
     }
-    key
 }

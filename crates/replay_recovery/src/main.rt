@@ -5,87 +5,42 @@
 // that gives them by value, below the one that writes them into a lent row.
 #![tactic(auto)]
 
-ghost use Rattle.std.specs.Prelude.{◌≤◌};
-
 use bg_move::Steps;
-use std::fs::File;
+use ints::refusal::Refusal;
 use std::io;
-use stored::{MOST, Tally};
 
 const RECORD: usize = 64;
 
 fn main(rt: HostRuntime) -> io::Result<()> {
-    let path = "recovery.bin";
-    let mut file = match File::open(&rt, path) {
-        Ok(file) => file,
-        Err(error) => return stored::tell_unopened(&rt, path.as_bytes(), error),
-    };
-    let tally = replay(&mut file)?;
-    stored::tell(
-        &rt,
-        path.as_bytes(),
-        b"answers",
-        b"less than a million whole records of 64 bytes",
-        tally,
-    )
+    stored::replay(&rt, "recovery.bin", "answers", differs)
 }
 
-// Replays the records of a file, one after another.
-fn replay(file: &mut File) -> io::Result<Tally> {
-    let mut differ: u64 = 0;
-    for replayed in 0..MOST {
-        let mut record = [0u8; RECORD];
-        let got = stored::read_full(file, &mut record)?;
-        if got != RECORD {
-            return Ok(Tally {
-                replayed,
-                differ,
-                whole: got == 0,
-            });
-        }
-        differ += differs(&record);
-    }
-    Ok(Tally {
-        replayed: MOST,
-        differ,
-        whole: false,
-    })
-}
-
-// 1 where the refusal or the steps are not the stored ones, else 0.
-fn differs(record: &[u8]) -> u64
-    ensures { result ≤ 1 }
-{
+// Whether the refusal or the steps are not the stored ones.
+fn differs(record: &[u8; RECORD]) -> bool {
     let old = stored::board(record, 0);
     let end = stored::board(record, 26);
-    let found = bg_move::recover(old, end, die(record, 52), die(record, 53));
-    if found.refused != stored::byte(record, 54) {
-        return 1;
-    }
-    let steps = found.steps;
-    if steps.count != stored::byte(record, 55) {
-        return 1;
-    }
-    if !holds(steps, record) {
-        return 1;
-    }
-    0
+    let found = bg_move::recover(old, end, usize::from(record[52]), usize::from(record[53]));
+    answer(found) != stored::bytes(record, 54)
 }
 
-// Whether all four places are the stored ones.
-fn holds(steps: Steps, record: &[u8]) -> bool {
-    for i in 0..4 {
-        if steps.from[i] != stored::byte(record, 56 + 2 * i) {
-            return false;
+// What is stored of an answer: the refusal's number, the number of steps, and each step's from and to.
+fn answer(found: Result<Steps, Refusal>) -> [u8; 10] {
+    match found {
+        Ok(steps) => {
+            let [a, b, c, d] = steps.steps;
+            [
+                0,
+                steps.count,
+                a.from,
+                a.to,
+                b.from,
+                b.to,
+                c.from,
+                c.to,
+                d.from,
+                d.to,
+            ]
         }
-        if steps.to[i] != stored::byte(record, 57 + 2 * i) {
-            return false;
-        }
+        Err(refusal) => [refusal.number(), 0, 0, 0, 0, 0, 0, 0, 0, 0],
     }
-    true
-}
-
-// The die in byte `at`.
-fn die(record: &[u8], at: usize) -> usize {
-    stored::wide(stored::byte(record, at)) as usize
 }

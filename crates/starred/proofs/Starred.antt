@@ -16,7 +16,7 @@ use Rattle.dice.specs.Dice.{is_die}
 use Rattle.dice.proofs.TwoDice.{test-die}
 use Rattle.position.specs.Board.{checkers, xs, start_refusal}
 use Rattle.position.specs.Step.{Good}
-use Rattle.position.specs.Answers.{no_board}
+use Rattle.position.specs.Answers.{no_board, board_answer}
 use Rattle.rules.specs.Plays.{LegalEnd}
 use Rattle.rules.specs.Ends.{same_board, ends_of, In}
 use Rattle.rules.proofs.Lists.{Boards, same_board-is}
@@ -25,8 +25,7 @@ use Rattle.moves.specs.Answers.{play_refusal}
 use Rattle.moves.proofs.Entries.{list-refused}
 use Rattle.bg_move.specs.declared.Step.{Step}
 use Rattle.bg_move.specs.Answers.{recover_refusal, recovered, row_answer, row_after}
-use Rattle.key.specs.Key.{key_refusal}
-use Rattle.key.proofs.Answers.{board-refused}
+use Rattle.key.specs.Key.{key_refusal, board_of_key_answer}
 use Rattle.starred.specs.Cases.{step, Case, ends, steps, recovery_refused, listing_refused, key_refused, number_of, Told, All, cases}
 use Rattle.starred.proofs.Boards.{good, same, same_steps, refuses, passes, failing, passed}
 
@@ -85,8 +84,13 @@ module _ (b : List ℤ) (d1 d2 : ℕ) (e : List ℤ) (row : List Step) where
   unfolding row_answer row_after
   row_stays k h q = (rw (q, lt-ltb 0 k h), rw (none-recovered k h q, le-ltb (length row) 0 (omega arith)))
 
+-- a key's refusal stands beside zeros
+key-refused : (bytes : List ℕ) (k : ℕ) → 0 < k → key_refusal checkers bytes ≡ k → board_of_key_answer checkers bytes ≡ record { refused = k; board = no_board }
+unfolding board_of_key_answer board_answer
+key-refused bytes k h e = rw (e, ne_eqb k 0 (λ z. omega arith))
+
 told : (c : Case) → passes c ≡ true → Told c
-unfolding passes key_refusal
+unfolding passes
 told (ends number b d1 d2 es) t =
     let h = and_parts (good b && (is_die d1 && is_die d2)) (same (ends_of b d1 d2) es) t in
     let k = and_parts (good b) (is_die d1 && is_die d2) h.0 in
@@ -106,7 +110,7 @@ told (listing_refused number b k) t = λ d1 d2 out.
     (sym r.0 ∙ ap (λ (i : ℕ). refused i 0) e, sym r.1)
 told (key_refused number bytes k) t =
     let h = is-refusal k (key_refusal checkers bytes) t in
-    sym (board-refused checkers bytes (record { refused = k; board = no_board }) k h.0 (sym h.1) refl refl)
+    key-refused bytes k h.0 h.1
 
 all_told : (cs : List Case) → failing cs ≡ [] → All Told cs
 all_told [] t = tt

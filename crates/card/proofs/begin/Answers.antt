@@ -1,33 +1,24 @@
--- The tests are the definition's, in their order, and the stores are the start record.
+-- An unrefused start has a key, and the stores are its start record.
 use mathlib.Core.Path.{◌≡◌, refl, sym, ◌∙◌}
-use Rattle.position.specs.Board.{checkers, Accepted, start_refusal}
-use Rattle.card.specs.declared.CardAnswer.TheVariants.{Value}
-use Rattle.card.proofs.Stores.{key-is, begin-refused, begin-short, begin-written}
+use Rattle.std.proofs.Common.{rules}
+use Rattle.position.specs.Board.{checkers, Accepted}
+use Rattle.key.specs.Key.{key_of}
+use Rattle.card.proofs.Stores.{encoded, begin-written}
 use Rattle.card.proofs.begin.Goals as goal
-use Rattle.card.proofs.begin.Goals.{Else-number-ne0}
+use Rattle.card.proofs.begin.Goals.{In_ok-check_start}
 
--- past the first test the board starts a card
-module _ (c : Else-number-ne0) where
-  started : start_refusal checkers c.args.b ≡ 0
-  started = sym c.start_refusal-number.ensures.is ∙ c.if-number-ne0.false
+accepted : (c : In_ok-check_start) → Accepted checkers c.args.b
+accepted c = c.in_ok-check_start.ensures.ok refl
 
-  accepted : Accepted checkers c.args.b
-  accepted = c.start_refusal-number.ensures.ok c.if-number-ne0.false
-
-pub returns-then-number-ne0 : goal.returns-then-number-ne0
-returns-then-number-ne0 c =
-    let a = c.args in
-    begin-refused checkers a.b a.buffer.now c.refused.result c.start_refusal-number.ensures.is c.if-number-ne0.true c.refused.ensures
-
-pub returns-then-buffer-lt-START_BYTES : goal.returns-then-buffer-lt-START_BYTES
-returns-then-buffer-lt-START_BYTES c =
-    let e = (goal.at.returns-then-buffer-lt-START_BYTES c).Else-number-ne0 in
-    let a = e.args in
-    begin-short checkers a.b a.buffer.now c.refused-then-buffer-lt-START_BYTES.result (started e) c.if-buffer-lt-START_BYTES.true c.refused-then-buffer-lt-START_BYTES.ensures
+pub unwrap-key-requires : goal.unwrap-key-requires
+unwrap-key-requires c =
+    let e = encoded checkers c.args.b (accepted (goal.at.unwrap-key-requires c).In_ok-check_start) c.encode.result c.encode.ensures in
+    search rules
 
 pub returns : goal.returns
 returns c =
-    let e = (goal.at.returns c).Else-number-ne0 in
-    let a = e.args in
-    let w = begin-written checkers a.b a.buffer.now (Value 12) (started e) c.if-buffer-lt-START_BYTES.false (key-is checkers a.b _ (accepted e) c.encode.ensures) refl in
-    (w.0, c.put.ensures ∙ w.1)
+    let s = (goal.at.returns c).In_ok-check_start in
+    let e = encoded checkers c.args.b (accepted s) c.encode.result c.encode.ensures in
+    let w = begin-written checkers c.args.b c.args.buffer.now (sym s.in_ok-check_start.ensures.is) c.if-buffer-lt-START_BYTES.false in
+    let key : c.unwrap-key.result ≡ key_of c.args.b = search rules in
+    (w.0, c.put-2.ensures ∙ rw (c.put.ensures, key) w.1)

@@ -1,44 +1,31 @@
 -- The first line, the turns', and the last, one after the other.
-use native.Mathlib.Omega.{arith}
+use Rattle.std.proofs.Common.{◌≡◌, arith}
+use Rattle.card.specs.Read.{board_after}
 use Rattle.card_text.proofs.Writing.{wrote-length}
-use Rattle.card_text.proofs.ToldTurns.{start-whole, start-board}
-use Rattle.card_text.proofs.CardLines.{start-size, card-put}
+use Rattle.card_text.proofs.ToldTurns.{start-whole, decoded, phase-ok, phase-is}
+use Rattle.card_text.proofs.CardLines.{card-put}
 use Rattle.card_text.proofs.put_card.Goals as goal
 
 pub key_bytes-key-requires : goal.key_bytes-key-requires
 key_bytes-key-requires c =
     start-whole c.args.card.now c.args.turns c.requires.0
 
+pub unwrap-start-requires : goal.unwrap-start-requires
+unwrap-start-requires c = rw (decoded c.args.card.now c.args.turns c.requires.0 c.key_bytes-key.ensures c.decode.ensures)
+
 pub put_turns-played-requires : goal.put_turns-played-requires
 put_turns-played-requires c =
-    let card = c.args.card.now in
-    let key = c.key_bytes-key in
-    let decode = c.decode-answer in
-    let w = c.put_start-begun.ensures in
-    let whole = start-whole card c.args.turns c.requires.0 in (
-      c.requires.0,
-      start-board card c.args.turns c.requires.0 key.result key.ensures decode.result decode.ensures,
-      omega (arith, w.next, wrote-length w, start-size card whole key.ensures, c.requires.1),
-    )
+    let e = decoded c.args.card.now c.args.turns c.requires.0 c.key_bytes-key.ensures c.decode.ensures in
+    let start : c.unwrap-start.result ≡ board_after c.args.card.now 0 = cc in
+    let w = c.put_line-begun.ensures in
+    (c.requires.0, start, omega (arith, w.next, wrote-length w, c.start_line.ensures.short, c.requires.1))
 
-pub put_result-requires : goal.put_result-requires
-put_result-requires c =
-    let card = c.args.card.now in
-    let w = c.put_start-begun.ensures in
-    let p = c.put_turns-played.ensures in
-    let whole = start-whole card c.args.turns c.requires.0 in
-    omega (
-      arith,
-      w.next,
-      wrote-length w,
-      p.near,
-      wrote-length p.wrote,
-      start-size card whole c.key_bytes-key.ensures,
-      c.requires.1,
-    )
+pub unwrap-phase-requires : goal.unwrap-phase-requires
+unwrap-phase-requires c = phase-ok c.put_turns-played.ensures.ok c.game_phase.result c.game_phase.ensures
 
 pub returns : goal.returns
 returns c =
-    let card = c.args.card.now in
-    card-put card c.args.turns (start-whole card c.args.turns c.requires.0) c.key_bytes-key.ensures c.put_start-begun.ensures
-    c.put_turns-played.ensures c.phase_number.ensures c.put_result.ensures
+    let p = c.put_turns-played.ensures in
+    let phase = phase-is p.ok c.game_phase.result c.game_phase.ensures c.unwrap-phase.ensures in
+    card-put c.args.card.now c.args.turns (rw (c.start_line.ensures.text, c.key_bytes-key.ensures) at c.put_line-begun.ensures)
+    p (rw (c.result_line.ensures.text, phase) at c.put_line.ensures)

@@ -7,9 +7,9 @@ use Rattle.moves.specs.Answers.{ends_count}
 use Rattle.end_number.specs.Number.{place}
 use Rattle.end_number.proofs.end_number.Given as goal
 
-abbrev pub invariant-loop-b : goal.invariant-loop-b
-invariant-loop-b l =
+abbrev pub invariant-loop-i : goal.invariant-loop-i
+invariant-loop-i l =
     (length l.slots ≡ 832) × (l.from ≤ ends_count l.b l.die1 l.die2) × (l.from ≤ place l.end (switched_ends_of l.b l.die1 l.die2))
 
-abbrev pub decreases-loop-b : goal.decreases-loop-b
-decreases-loop-b l = ends_count l.b l.die1 l.die2 - l.from
+abbrev pub decreases-loop-i : goal.decreases-loop-i
+decreases-loop-i l = ends_count l.b l.die1 l.die2 - l.from

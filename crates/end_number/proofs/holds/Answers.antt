@@ -1,28 +1,23 @@
-use mathlib.Core.Path.{◌≡◌, ap, ◌∙◌}
-use Prim.Native.Nat.{ℕ}
+-- Each entry that is compared is that of its byte.
+use mathlib.Core.Path.{◌≡◌, sym, ◌∙◌}
 use native.Mathlib.Omega.{arith}
-use mir.Syntax.{w8}
-use mir.Val.{of_z}
-use Rattle.end_number.proofs.Slots.{holds-entries, held-entry}
+use lib.IntN.{pos}
+use lib.ListN.{get_or, length-map}
+use lib.Seq.{ext_get_or}
+use Rattle.std.proofs.Common.{rules, map}
+use Rattle.std.specs.Cmp.Rules.{signed_items}
+use Rattle.ints.specs.Twos.{from_twos}
+use Rattle.moves.proofs.Entries.{get_or-from}
 use Rattle.end_number.proofs.holds.Goals as goal
-
-pub returns-then-entry_of-board : goal.returns-then-entry_of-board
-returns-then-entry_of-board c =
-    record {
-      held = λ t. let z : ◌≡◌ {A = ℕ} 0 1 = cc in absurd (omega arith);
-      other = λ t h.
-          c.if-entry_of-board.true (
-          ap (of_z w8) (
-          c.entry_of.ensures
-          ∙ held-entry c.args.slots.now c.args.i c.args.board.now c.requires.0 c.requires.2 c.loop-k.k (omega arith) h
-          )
-          );
-    }
 
 pub returns : goal.returns
 returns c =
-    let l = c.loop-k in
-    record {
-      held = λ t. holds-entries c.args.slots.now c.args.i c.args.board.now c.requires.0 c.requires.2 c.requires.1 (λ j h. l.invariant.1 j (omega arith));
-      other = λ t. let z : ◌≡◌ {A = ℕ} 0 1 = cc in absurd (omega arith);
-    }
+    let l = c.args.slot.now in
+    let m = c.map.ensures.items in
+    let e : c.map.result ≡ map from_twos l =
+    ext_get_or (pos 0) c.map.result (map from_twos l) (m.long ∙ sym (length-map l from_twos ∙ c.told-slot))
+    (λ k h.
+    let at = m.at k 0 (pos 0) (omega (arith, m.long)) in
+    let e : get_or c.map.result k (pos 0) ≡ from_twos (get_or l k 0) = search rules in
+    e ∙ sym (get_or-from l k (omega (arith, m.long, c.told-slot)))) in
+    rw (← e, c.eq.ensures) (signed_items c.map.result c.args.board.now)

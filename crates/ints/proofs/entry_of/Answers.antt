@@ -1,10 +1,8 @@
--- From 128 on the entry is -1 less 255 - b, which fits; below, it is the byte.
-use borrow.Author.Rules.{rules}
-use Rattle.ints.proofs.Twos.{upper, lower}
+-- Two's complement is what the cast from an unsigned byte reads.
+use Rattle.std.proofs.Common.{rules}
+use Rattle.ints.specs.Twos.{from_twos}
 use Rattle.ints.proofs.entry_of.Goals as goal
 
-pub returns-then-b-lt128 : goal.returns-then-b-lt128
-returns-then-b-lt128 c = lower c.args.b (search rules)
-
-pub returns-else-b-lt128 : goal.returns-else-b-lt128
-returns-else-b-lt128 c = (upper c.args.b (search rules)).is
+pub returns : goal.returns
+unfolding from_twos
+returns c = search rules

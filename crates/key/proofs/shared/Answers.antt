@@ -1,30 +1,22 @@
-use mathlib.Core.Path.{sym, ◌∙◌}
-use mathlib.Core.Bool.{false}
-use native.Mathlib.Numerals.{add-one}
+-- The pairs that the test goes through are x's and o's checkers of each point.
 use native.Mathlib.Omega.{arith}
-use Rattle.ints.specs.Sums.{values}
-use Rattle.ints.proofs.Bits.{some-no, some-yes, some_end}
-use Rattle.ints.proofs.Sums.{length-values, table_at}
-use Rattle.key.specs.Key.{meets}
+use mathlib.Core.Path.{◌∙◌}
+use mathlib.Core.Bool.{◌&&◌}
+use lib.Dec.{ltb}
+use Rattle.std.proofs.Common.{rules, tests}
+use Rattle.std.proofs.lemmas.Iterator.{YieldsList-from_slice, YieldsList-from_zip}
+use Rattle.std.proofs.lemmas.Iterator.Adapters.{YieldsList-from_rev_slice}
+use Rattle.std.proofs.lemmas.Iterator.Consumers.{YieldsList-at}
+use Rattle.std.proofs.lemmas.Iterator.Search.{any_from_yields_List}
+use Rattle.key.proofs.Boards.{meet-tested}
 use Rattle.key.proofs.shared.Goals as goal
-
-pub returns-then-both : goal.returns-then-both
-returns-then-both c =
-    let l = c.loop-p in
-    let f = meets c.args.x.now c.args.o.now in
-    sym (l.invariant.1 ∙ some-yes (values f 0 26) l.p (table_at f 26 l.p false (omega arith) ∙ sym c.both.ensures ∙ c.if-both.true))
-
-pub loop-p-preserved : goal.loop-p-preserved
-loop-p-preserved c =
-    let l = c.loop-p in
-    let f = meets c.args.x.now c.args.o.now in (
-      omega arith,
-      rw add-one
-          (l.invariant.1 ∙ some-no (values f 0 26) l.p (table_at f 26 l.p false (omega arith) ∙ sym c.both.ensures ∙ c.if-both.false)),
-    )
 
 pub returns : goal.returns
 returns c =
-    let l = c.loop-p in
-    let f = meets c.args.x.now c.args.o.now in
-    sym (l.invariant.1 ∙ some_end (values f 0 26) l.p (omega (arith, length-values f 0 26)))
+    let x = c.args.x.now in
+    let o = c.args.o.now in
+    any_from_yields_List (λ p. ltb 0 p.0 && ltb 0 p.1) c.any.new.self _ c.any.result c.any.ensures.ran
+    (YieldsList-from_zip (YieldsList-at c.zip.ensures.first (YieldsList-from_slice x c.iter.ensures.rest))
+    (YieldsList-at c.zip.ensures.second (YieldsList-from_rev_slice o (cc c.rev.ensures.source))))
+    (λ x r q k. search (rules, tests))
+    ∙ meet-tested x o (omega arith) (omega arith)

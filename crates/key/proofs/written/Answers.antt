@@ -37,13 +37,13 @@ module _ (c : After-count-n) where
 pub loop-j-init : goal.loop-j-init
 loop-j-init c =
     let f : 15 ≤ 15 = omega arith in
-    (omega arith, omega (arith, total-counts c.requires), rw (bits-zeros 10) (put-start c.requires f), refl, bytes-zeros 10)
+    (omega (arith, total-counts c.requires), rw (bits-zeros 10) (put-start c.requires f), refl, bytes-zeros 10)
 
 pub set_ones-requires : goal.set_ones-requires
 set_ones-requires c =
     let v = c.loop-j.invariant in
     let h = sum_left (goal.at.set_ones-requires c).After-count-n in
-    (omega arith, v.4)
+    (omega arith, v.3)
 
 pub overflow_add-at : goal.overflow_add-at
 overflow_add-at c = let h = sum_left (goal.at.overflow_add-at c).After-count-n in omega arith
@@ -58,13 +58,12 @@ loop-j-preserved c =
     let b = board (goal.at.loop-j-preserved c).After-count-n in
     let h = sum_left (goal.at.loop-j-preserved c).After-count-n in
     let e = c.set_ones.ensures.0 in (
-      omega arith,
       rw (add-one l.j) (omega arith),
       rw (add-one l.j, e)
           (sym (put-run (bits_of l.key) l.at n (drop (suc l.j) (counts b)))
           ∙ ap (λ (r : List ℕ). merged (bits_of l.key) l.at (runs r)) (sym (left (goal.at.loop-j-preserved c).After-count-n))
-          ∙ l.invariant.2),
-      omega (arith, l.invariant.3, length-bits c.set_ones.new.key, ap length e, length_merged (bits_of l.key) l.at (replicate n true), length-bits l.key),
+          ∙ l.invariant.1),
+      omega (arith, l.invariant.2, length-bits c.set_ones.new.key, ap length e, length_merged (bits_of l.key) l.at (replicate n true), length-bits l.key),
       c.set_ones.ensures.1,
     )
 
@@ -74,6 +73,6 @@ returns c =
     let l = c.loop-j in
     let b = c.args.b in
     let n : length (counts b) ≤ l.j = omega (arith, length-board-counts b) in
-    let e : bits_of l.key ≡ key_bits b = ap (λ (r : List ℕ). merged (bits_of l.key) l.at (runs r)) (sym (drop_of_length-le (counts b) n)) ∙ l.invariant.2 in
-    let z : length l.key ≡ 10 = l.invariant.3 in
-    sym (ap (bytes_of 10) (sym e) ∙ (rw z at (bytes_bits l.key l.invariant.4)))
+    let e : bits_of l.key ≡ key_bits b = ap (λ (r : List ℕ). merged (bits_of l.key) l.at (runs r)) (sym (drop_of_length-le (counts b) n)) ∙ l.invariant.1 in
+    let z : length l.key ≡ 10 = l.invariant.2 in
+    sym (ap (bytes_of 10) (sym e) ∙ (rw z at (bytes_bits l.key l.invariant.3)))

@@ -9,8 +9,5 @@ use Rattle.key.proofs.written.Given as goal
 
 abbrev pub invariant-loop-j : goal.invariant-loop-j
 invariant-loop-j l =
-    (l.j ≤ 50) × (l.at + total (drop l.j (counts l.b)) + (50 - l.j) ≤ 80)
+    (l.at + total (drop l.j (counts l.b)) + (50 - l.j) ≤ 80)
     × (merged (bits_of l.key) l.at (runs (drop l.j (counts l.b))) ≡ key_bits l.b) × (length l.key ≡ 10) × Bytes l.key
-
-abbrev pub decreases-loop-j : goal.decreases-loop-j
-decreases-loop-j l = 50 - l.j

@@ -1,36 +1,18 @@
 -- A window of one slot at the number holds that end, if there is one.
-use mathlib.Core.Path.{◌≡◌, sym, ap, ◌∙◌}
-use mathlib.Core.List.{[], map}
-use Prim.Native.Nat.{ℕ, ◌<◌}
+use Rattle.std.proofs.Common.{rules, ◌≡◌, refl, sym, ap, ◌∙◌, ℕ, ◌<◌, ℤ, List, [], map, get_or, Ok, Err}
 use native.Mathlib.Omega.{arith}
-use lib.ListN.{get_or, length-replicate}
+use lib.ListN.{length-replicate}
 use Rattle.ints.specs.Twos.{from_twos}
+use Rattle.ints.specs.declared.refusal.Refusal.TheVariants.{NoSuchEnd}
+use Rattle.ints.proofs.Refusals.{number-pos}
 use Rattle.position.specs.Board.{checkers}
-use Rattle.position.specs.Answers.{board_answer, no_board}
-use Rattle.position.specs.declared.BoardAnswer.{BoardAnswer}
-use Rattle.position.proofs.Answering.{refused-is, answered-is}
+use Rattle.position.specs.Answers.{board_answer, board_told}
+use Rattle.position.proofs.Answering.{err-told, ok-told}
 use Rattle.rules.specs.Ends.{switched_ends_of}
-use Rattle.moves.specs.Answers.{CanPlay, play_refusal, ends_count, end_refusal, end_answer}
-use Rattle.moves.proofs.Entries.{count-is, slot_read, end_refused, end_none, end-some}
+use Rattle.moves.specs.Answers.{ends_count, end_answer}
+use Rattle.moves.proofs.Entries.{may_play, play-refused, count-is, slot_read, end_refused, end_none, end-some}
 use Rattle.moves.proofs.end.Goals as goal
-use Rattle.moves.proofs.end.Goals.{After-fill-n, Else-refused-ne0, Start}
-
--- a refusal k, told by an answer
-module _ (c : Start) (r : BoardAnswer) where
-  refuse : (k : ℕ) → k ≡ end_refusal checkers c.args.b c.args.die1 c.args.die2 c.args.number → 0 < k → r.refused ≡ k → r.board ≡ no_board
-      → r ≡ end_answer checkers c.args.b c.args.die1 c.args.die2 c.args.number
-  unfolding end_answer
-  refuse k e h n s =
-      let b = get_or (switched_ends_of c.args.b c.args.die1 c.args.die2) c.args.number [] in
-      refused-is r b k h n s ∙ ap (λ (m : ℕ). board_answer m b) e
-
--- past the refusals a play can be asked
-module _ (c : Else-refused-ne0) where
-  ok : play_refusal checkers c.args.b c.args.die1 c.args.die2 ≡ 0
-  ok = sym c.play_refusal-refused.ensures.is ∙ c.if-refused-ne0.false
-
-  can : CanPlay checkers c.args.b c.args.die1 c.args.die2
-  can = c.play_refusal-refused.ensures.ok c.if-refused-ne0.false
+use Rattle.moves.proofs.end.Goals.{After-fill-n}
 
 -- what the generator counted
 ends : (c : After-fill-n) → c.fill-n.result ≡ ends_count c.args.b c.args.die1 c.args.die2
@@ -39,33 +21,36 @@ ends c =
     let n = c.fill-n.ensures.number in
     omega (arith, n, count-is a.b a.die1 a.die2)
 
-pub returns-then-refused-ne0 : goal.returns-then-refused-ne0
-returns-then-refused-ne0 c =
-    let s = (goal.at.returns-then-refused-ne0 c).Start in
-    let e = c.play_refusal-refused.ensures.is in
-    let n = c.if-refused-ne0.true in
-    refuse s _ (play_refusal checkers s.args.b s.args.die1 s.args.die2)
-    (end_refused checkers s.args.b s.args.die1 s.args.die2 s.args.number (omega arith)) (omega arith)
-    (c.refused.ensures.0 ∙ e) c.refused.ensures.1
+pub returns-in_err-check_play : goal.returns-in_err-check_play
+unfolding end_answer
+returns-in_err-check_play c =
+    let a = c.args in
+    let why = c.in_err-check_play.field-0.0 in
+    let e : c.from_residual.result ≡ Err why = search rules in
+    let n = play-refused c.check_play.ensures c.in_err-check_play.was in
+    ap board_told e
+    ∙ err-told why (get_or (switched_ends_of a.b a.die1 a.die2) a.number []) _
+    (n ∙ end_refused checkers a.b a.die1 a.die2 a.number (omega (arith, n, number-pos why)))
 
 pub returns-then-n-number : goal.returns-then-n-number
+unfolding end_answer
 returns-then-n-number c =
     let f = (goal.at.returns-then-n-number c).After-fill-n in
-    let e = (goal.at.returns-then-n-number c).Else-refused-ne0 in
-    let s = (goal.at.returns-then-n-number c).Start in
-    refuse s _ 11
-    (end_none checkers s.args.b s.args.die1 s.args.die2 (ok e) s.args.number (omega (arith, ends f, c.if-n-number.true)))
-    (omega arith) c.refused-then-n-number.ensures.0 c.refused-then-n-number.ensures.1
+    let a = c.args in
+    let ok = sym (may_play c.check_play.ensures c.in_ok-check_play.was).is in
+    err-told NoSuchEnd (get_or (switched_ends_of a.b a.die1 a.die2) a.number []) _
+    (end_none checkers a.b a.die1 a.die2 ok a.number (omega (arith, ends f, c.if-n-number.true)))
 
 pub returns : goal.returns
 unfolding end_answer
 returns c =
     let f = (goal.at.returns c).After-fill-n in
-    let e = (goal.at.returns c).Else-refused-ne0 in
-    let s = e in
-    let b = get_or (switched_ends_of s.args.b s.args.die1 s.args.die2) s.args.number [] in
-    let h : s.args.number < ends_count s.args.b s.args.die1 s.args.die2 = omega (arith, ends f, c.if-n-number.false) in
-    answered-is _ b c.answered.ensures.0
-    (c.answered.ensures.1 ∙ c.board_of.ensures ∙ ap (map from_twos) f.fill-n.ensures.lent
-    ∙ slot_read checkers (omega arith) s.args.b s.args.die1 s.args.die2 (can e) s.args.number _ (length-replicate {A = ℕ} 26 0) h)
-    ∙ ap (λ (m : ℕ). board_answer m b) (end-some checkers s.args.b s.args.die1 s.args.die2 (ok e) s.args.number h)
+    let a = c.args in
+    let b = get_or (switched_ends_of a.b a.die1 a.die2) a.number [] in
+    let may = may_play c.check_play.ensures c.in_ok-check_play.was in
+    let h : a.number < ends_count a.b a.die1 a.die2 = omega (arith, ends f, c.if-n-number.false) in
+    ap (λ (b : List ℤ). board_told (Ok b)) (
+    c.board_of.ensures ∙ ap (map from_twos) c.fill-n.ensures.lent
+    ∙ slot_read checkers (omega arith) a.b a.die1 a.die2 (may.ok refl) a.number _ (length-replicate {A = ℕ} 26 0) h
+    )
+    ∙ ok-told b ∙ ap (λ (m : ℕ). board_answer m b) (end-some checkers a.b a.die1 a.die2 (sym may.is) a.number h)

@@ -11,8 +11,8 @@ pub returns-then-b-i-gt0 : goal.returns-then-b-i-gt0
 returns-then-b-i-gt0 c =
     let b = c.args.b.now in
     let i = c.loop-i.i in
-    sym (clear-no b _ i c.loop-i.invariant.0 (omega arith) (above-yes w8 (entry b i) (search rules) c.if-b-i-gt0.true))
+    sym (clear-no b _ i (omega arith) (omega arith) (above-yes w8 (entry b i) (search rules) c.if-b-i-gt0.true))
 
 pub returns : goal.returns
 returns c =
-    sym (clear-yes c.args.b.now c.args.lo (λ k l m. c.loop-i.invariant.2 k l (omega arith)))
+    sym (clear-yes c.args.b.now c.args.lo (λ k l m. c.loop-i.invariant k l (omega arith)))

@@ -7,6 +7,3 @@ use Rattle.position.proofs.sides_switched.Given as goal
 
 abbrev pub invariant-loop-i : goal.invariant-loop-i
 invariant-loop-i l = Filled (λ k. neg_ℤ (entry l.b (25 - k))) (pos 0) 26 l.r l.i
-
-abbrev pub decreases-loop-i : goal.decreases-loop-i
-decreases-loop-i l = 26 - l.i

@@ -1,31 +1,29 @@
 -- An accepted board is small enough to be negated, and any other is refused.
-use mathlib.Core.Path.{◌≡◌, sym, ap, ◌∙◌}
-use Prim.Native.Nat.{ℕ}
+use Rattle.std.proofs.Common.{rules, ◌≡◌, sym, ap, ◌∙◌, ℕ, Err, Ok}
 use native.Mathlib.Omega.{arith}
 use Rattle.ints.proofs.Signed.{small-more}
-use Rattle.position.specs.Board.{checkers, refusal_of, switched}
-use Rattle.position.specs.Answers.{board_answer, switch_answer}
+use Rattle.position.specs.Board.{checkers, switched}
+use Rattle.position.specs.Answers.{board_answer, board_told, switch_answer}
 use Rattle.position.proofs.Boards.{accepted-small}
-use Rattle.position.proofs.Answering.{refused-is, answered-is}
+use Rattle.position.proofs.Answering.{err-told, ok-told, passed, refused-by}
 use Rattle.position.proofs.switch.Goals as goal
 
-pub returns-then-n-ne0 : goal.returns-then-n-ne0
+pub returns-in_err-check : goal.returns-in_err-check
 unfolding switch_answer
-returns-then-n-ne0 c =
-    let b = c.args.b in
-    let e = c.refusal-n.ensures.is in
-    let n = c.if-n-ne0.true in
-    refused-is _ (switched b) (refusal_of checkers b) (omega arith) (c.refused.ensures.0 ∙ e) c.refused.ensures.1
+returns-in_err-check c =
+    let why = c.in_err-check.field-0.0 in
+    let e : c.from_residual.result ≡ Err why = search rules in
+    let n = refused-by c.check.ensures c.in_err-check.was in
+    ap board_told e ∙ err-told why (switched c.args.b) _ n
 
 pub sides_switched-requires : goal.sides_switched-requires
 sides_switched-requires c =
-    let b = c.args.b in
-    small-more checkers 126 b (omega arith) (accepted-small (c.refusal-n.ensures.ok c.if-n-ne0.false))
+    small-more checkers 126 c.args.b (omega arith) (accepted-small (passed c.check.ensures c.in_ok-check.was).accepted)
 
 pub returns : goal.returns
 unfolding switch_answer
 returns c =
-    let b = c.args.b in
-    let z : refusal_of checkers b ≡ 0 = sym c.refusal-n.ensures.is ∙ c.if-n-ne0.false in
-    answered-is _ (switched b) c.answered.ensures.0 (c.answered.ensures.1 ∙ c.sides_switched.ensures)
-    ∙ ap (λ (k : ℕ). board_answer k (switched b)) (sym z)
+    let k = passed c.check.ensures c.in_ok-check.was in
+    ap (λ b. board_told (Ok b)) c.sides_switched.ensures
+    ∙ ok-told (switched c.args.b)
+    ∙ ap (λ (k : ℕ). board_answer k (switched c.args.b)) (sym k.ok)

@@ -1,12 +1,14 @@
--- The loop's invariant: the turns read so far, and what is left to answer.
-use Prim.Native.Nat.{◌-◌}
+-- The loop's invariant: the turns read so far, and what is left to read.
+use Rattle.std.proofs.Common.{◌≡◌}
+use Rattle.std.specs.Slice.Iter.{chunks_rest, chunks_size}
 use Rattle.position.specs.Board.{checkers}
 use Rattle.card.specs.Game.{turns_most}
 use Rattle.card.proofs.Replays.{Going}
 use Rattle.card.proofs.reader.replay.Given as goal
 
-abbrev pub invariant-loop-at : goal.invariant-loop-at
-invariant-loop-at l = Going checkers turns_most l.card l.stop l.b l.asked l.turns l.at
-
-abbrev pub decreases-loop-at : goal.decreases-loop-at
-decreases-loop-at l = turns_most - l.turns
+abbrev pub invariant-loop-bytes : goal.invariant-loop-bytes
+invariant-loop-bytes l =
+    goal.iterator-loop-bytes.can_next l.bytes-iterator
+    × goal.iterator-loop-bytes.is_finite l.bytes-iterator
+    × (chunks_size l.bytes-iterator ≡ 5)
+    × Going checkers turns_most l.card l.stop l.last l.asked l.turns (chunks_rest l.bytes-iterator)

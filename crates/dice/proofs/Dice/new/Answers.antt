@@ -15,25 +15,21 @@ returns-then-not-is_die-2 c =
 
 pub returns-then-die1-die2 : goal.returns-then-die1-die2
 returns-then-die1-die2 c =
-    let second = c in
-    let first = second in
-    let a = first.args in
+    let a = c.args in
     sym
     (double-is a.die1 a.die2
-    (sym first.is_die.ensures ∙ second.if-not-is_die.false)
-    (sym second.is_die-2.ensures ∙ c.if-not-is_die-2.false)
+    (sym c.is_die.ensures ∙ c.if-not-is_die.false)
+    (sym c.is_die-2.ensures ∙ c.if-not-is_die-2.false)
     c.if-die1-die2.true)
 
-pub returns-else-die1-die2 : goal.returns-else-die1-die2
-returns-else-die1-die2 c =
-    let second = c in
-    let first = second in
-    let a = first.args in
+pub returns : goal.returns
+returns c =
+    let a = c.args in
     sym
     (mixed-is a.die1 a.die2
-    (sym first.is_die.ensures ∙ second.if-not-is_die.false)
-    (sym second.is_die-2.ensures ∙ c.if-not-is_die-2.false)
+    (sym c.is_die.ensures ∙ c.if-not-is_die.false)
+    (sym c.is_die-2.ensures ∙ c.if-not-is_die-2.false)
     c.if-die1-die2.false
-    c.new.result
-    c.new.ensures.0
-    c.new.ensures.1)
+    (record { big = c.max.result; small = c.min.result })
+    c.max.ensures
+    c.min.ensures)

@@ -3,7 +3,7 @@
 use mathlib.Core.Path.{◌≡◌}
 use mathlib.Core.Bool.{true}
 use mathlib.Core.List.{List}
-use Prim.Native.Nat.{ℕ, ◌+◌, ◌*◌, ◌^◌, ◌<◌}
+use Prim.Native.Nat.{ℕ, ◌+◌, ◌*◌}
 use Rattle.ints.specs.Bits.{bit}
 use Rattle.ints.specs.Masks.{those}
 use Rattle.position.specs.Step.{can_step}
@@ -23,11 +23,7 @@ decreases-level l = 2 * l.left
 abbrev pub decreases-next : goal.decreases-next
 decreases-next l = 2 * l.left + 1
 
-abbrev pub invariant-level-loop-rest : goal.invariant-level-loop-rest
-invariant-level-loop-rest l =
-    (l.rest < 2 ^ 25)
-    × ((p : ℕ) → bit l.rest p ≡ true → can_step l.b p l.die ≡ true)
-    × Remain (doubles l.die l.left l.top l.b) l.initial.out l.from l.start (over (branch l.b l.die l.left) (points l.rest)) l.out l.n
-
-abbrev pub decreases-level-loop-rest : goal.decreases-level-loop-rest
-decreases-level-loop-rest l = l.rest
+abbrev pub invariant-level-loop-p : goal.invariant-level-loop-p
+invariant-level-loop-p l =
+    ((p : ℕ) → bit l.p-iterator.rest p ≡ true → can_step l.b p l.die ≡ true)
+    × Remain (doubles l.die l.left l.top l.b) l.initial.window l.start (over (branch l.b l.die l.left) (points l.p-iterator.rest)) l.window l.n

@@ -3,7 +3,4 @@ use Rattle.moves.specs.Entering.{Entering}
 use Rattle.moves.proofs.double_moves.after_entering.Given as goal
 
 abbrev pub invariant-loop-left : goal.invariant-loop-left
-invariant-loop-left l = Entering l.die l.initial.board l.steps l.board l.left
-
-abbrev pub decreases-loop-left : goal.decreases-loop-left
-decreases-loop-left l = l.left
+invariant-loop-left l = Entering l.die l.fn.b l.steps l.board l.left

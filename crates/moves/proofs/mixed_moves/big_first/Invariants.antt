@@ -1,5 +1,5 @@
 -- Where no x stands above the smaller die there is nothing to pass. The loop's invariant: what is still to be passed, from here, is the
--- ends that begin with a step from a point of `rest`; each turn passes those of the lowest. The measure is `rest`.
+-- ends that begin with a step from the points that are left; each turn passes those of the lowest.
 use mathlib.Core.List.{List}
 use Prim.Native.Nat.{ℕ}
 use Rattle.ints.specs.Bits.{bit}
@@ -13,9 +13,6 @@ use Rattle.moves.proofs.mixed_moves.big_first.Given as goal
 abbrev pub points : ℕ → List ℕ
 points m = those 25 0 (bit m)
 
-abbrev pub invariant-loop-rest : goal.invariant-loop-rest
-invariant-loop-rest l =
-    Turns l.b l.big (low_from l.b l.big l.small) points l.rest l.out l.from l.n (low_once l.b l.big l.small) l.initial.out l.start
-
-abbrev pub decreases-loop-rest : goal.decreases-loop-rest
-decreases-loop-rest l = l.rest
+abbrev pub invariant-loop-p : goal.invariant-loop-p
+invariant-loop-p l =
+    Turns l.b l.dice.big (low_from l.b l.dice.big l.dice.small) points l.p-iterator.rest l.window l.n (low_once l.b l.dice.big l.dice.small) l.initial.window l.start

@@ -4,7 +4,7 @@ use native.Mathlib.Omega.{arith}
 use Rattle.ints.specs.Bits.{bit}
 use Rattle.ints.proofs.Masks.{length-those-le}
 use Rattle.dice.specs.Dice.{Die}
-use Rattle.moves.proofs.Entering.{entered-lt, enter-turn, enter-no}
+use Rattle.moves.proofs.Entering.{enter-turn, enter-no}
 use Rattle.moves.proofs.Passing.{passed_is, passed_none}
 use Rattle.moves.proofs.mixed_moves.enter.Goals as goal
 use Rattle.moves.proofs.mixed_moves.enter.Goals.{Start}
@@ -19,15 +19,10 @@ pub returns-then-not-can_move : goal.returns-then-not-can_move
 returns-then-not-can_move c =
     let a = c.args in
     let can = sym c.can_move.ensures ∙ c.if-not-can_move.true in
-    passed_is (sym (enter-no a.b.now a.first a.second a.omit can)) (passed_none a.out.now a.from a.start)
+    passed_is (sym (enter-no a.b.now a.first a.second a.omit can)) (passed_none a.window.now a.start)
 
-pub origins-requires : goal.origins-requires
-origins-requires c =
-    let s = (goal.at.origins-requires c).Start in
-    (entered-lt s.args.x s.args.first s.requires.x_bound.0 (first-die s), omega arith, omega arith, omega arith)
-
-pub up_after-requires-clause-p_bound : goal.up_after-requires-clause-p_bound
-up_after-requires-clause-p_bound c =
+pub steps_after-requires-clause-p_bound : goal.steps_after-requires-clause-p_bound
+steps_after-requires-clause-p_bound c =
     let r = c.without-seconds in
     let o = c.origins.ensures in
     let few = length-those-le 25 0 (bit r.result) in
@@ -38,8 +33,10 @@ returns c =
     let o = c.origins in
     let s = (goal.at.returns c).Start in
     let a = s.args in
+    let y = c.with-entered in
     let can = sym c.can_move.ensures ∙ c.if-not-can_move.false in
     passed_is
-    (enter-turn a.b.now a.first a.second a.omit a.x a.free o.result c.without-seconds.result s.requires.good.0 (first-die s) (second-die s)
-    s.requires.good.3 s.requires.good.4 s.requires.good.2 can s.requires.x_bound.0 s.requires.x_bound.1 o.ensures.0 c.without-seconds.ensures.0)
-    c.up_after.ensures
+    (enter-turn a.b.now a.first a.second a.omit a.points.x a.points.free y.result.x y.result.free o.result c.without-seconds.result s.requires.good.0
+    (first-die s) (second-die s) s.requires.good.3 s.requires.good.4 s.requires.good.2 can y.ensures y.result.x_points y.result.free_points
+    o.ensures.0 c.without-seconds.ensures.0)
+    c.steps_after.ensures

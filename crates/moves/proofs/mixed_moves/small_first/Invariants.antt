@@ -1,5 +1,5 @@
--- The loop's invariant: what is still to be passed, from here, is the ends that begin with a step from a point of `rest`; each turn passes
--- those of the highest. The measure is `rest`.
+-- The loop's invariant: what is still to be passed, from here, is the ends that begin with a step from a point the points that are
+-- left; each turn passes those of the highest.
 use mathlib.Core.List.{List}
 use Prim.Native.Nat.{ℕ}
 use Rattle.ints.specs.Bits.{bit}
@@ -13,9 +13,6 @@ use Rattle.moves.proofs.mixed_moves.small_first.Given as goal
 abbrev pub points : ℕ → List ℕ
 points m = those_down 25 (bit m)
 
-abbrev pub invariant-loop-rest : goal.invariant-loop-rest
-invariant-loop-rest l =
-    Turns l.b l.small (top_from l.b l.small l.big) points l.rest l.out l.from l.n (from_top l.b l.small l.big) l.initial.out 0
-
-abbrev pub decreases-loop-rest : goal.decreases-loop-rest
-decreases-loop-rest l = l.rest
+abbrev pub invariant-loop-p : goal.invariant-loop-p
+invariant-loop-p l =
+    Turns l.b l.dice.small (top_from l.b l.dice.small l.dice.big) points l.p-iterator.rest l.window l.n (from_top l.b l.dice.small l.dice.big) l.initial.window 0

@@ -1,27 +1,33 @@
--- `munchalep::recover::munchalep_recover` meets its contract: a row with too few places stays, and else it is what the last store leaves.
-use Rattle.std.proofs.Common.{◌≡◌, ◌+◌, ◌*◌, ◌<◌, ◌≤◌, ◌∙◌, ap, subst, length, arith}
+-- A refusal and a row with too few places leave the row; else the steps are copied to its first places.
+use mathlib.Core.Path.{ap, ◌∙◌}
+use mathlib.Core.List.{List, ◌++◌}
+use lib.ListN.{length, drop}
 use Rattle.position.specs.Board.{checkers}
-use Rattle.bg_move.specs.declared.Recovered.{Recovered}
-use Rattle.bg_move.proofs.Rows.{written, row_written, row_number, row_kept, row-27}
+use Rattle.bg_move.specs.declared.Step.{Step}
+use Rattle.bg_move.proofs.Rows.{count-most, row-refused, row-short, row-made}
 use Rattle.munchalep.proofs.recover.munchalep_recover.Goals as goal
 
-pub returns-then-row-n : goal.returns-then-row-n
-returns-then-row-n c =
+pub returns-in-Err : goal.returns-in-Err
+returns-in-Err c =
     let a = c.args in
-    let row = a.row.now in
-    let few = subst (λ (r : Recovered). length row < r.steps.count) c.found_steps-found.ensures c.if-row-n.true in
-    (row-27 checkers a.old.now a.die1 a.die2 a.end.now row few, row_kept checkers a.old.now a.die1 a.die2 a.end.now row few)
+    let r = row-refused checkers a.old.now a.die1 a.die2 a.end.now a.row.now c.in-Err.refusal c.in-Err.ensures in
+    (c.number.ensures ∙ r.0, r.1)
+
+pub as_slice-steps-requires : goal.as_slice-steps-requires
+as_slice-steps-requires c =
+    let a = c.args in
+    count-most checkers a.old.now a.die1 a.die2 a.end.now a.row.now c.in-Ok.steps c.in-Ok.ensures
+
+pub returns-then-row-steps : goal.returns-then-row-steps
+returns-then-row-steps c =
+    let a = c.args in
+    let t = c.as_slice-steps in
+    let r = row-short checkers a.old.now a.die1 a.die2 a.end.now a.row.now c.in-Ok.steps c.in-Ok.ensures t.result.now t.ensures c.if-row-steps.true in
+    (c.number-then-row-steps.ensures ∙ r.0, r.1)
 
 pub returns : goal.returns
 returns c =
     let a = c.args in
-    let row = a.row.now in
-    let found = c.found_steps-found.result in
-    let e = c.found_steps-found.ensures in
-    let enough = subst (λ (r : Recovered). r.steps.count ≤ length row) e c.if-row-n.false in
-    let all : c.loop-i.i ≡ found.steps.count = omega (arith, c.loop-i.invariant.0, c.loop-i-test.false) in (
-      c.recovered_number.ensures ∙ ap (λ (r : Recovered). r.refused + 256 * r.steps.count) e
-          ∙ row_number checkers a.old.now a.die1 a.die2 a.end.now row enough,
-      c.loop-i.invariant.1 ∙ ap (λ k. written found k row) all ∙ ap (λ (r : Recovered). written r r.steps.count row) e
-          ∙ row_written checkers a.old.now a.die1 a.die2 a.end.now row enough,
-    )
+    let t = c.as_slice-steps in
+    let r = row-made checkers a.old.now a.die1 a.die2 a.end.now a.row.now c.in-Ok.steps c.in-Ok.ensures t.result.now t.ensures c.if-row-steps.false in
+    (r.0, ap (λ (l : List Step). l ++ drop (length t.result.now) a.row.now) c.copy_from_slice.ensures.after ∙ r.1)

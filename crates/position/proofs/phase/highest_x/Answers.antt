@@ -13,18 +13,16 @@ pub returns-then-b-i-gt0 : goal.returns-then-b-i-gt0
 returns-then-b-i-gt0 c =
     let b = c.args.b.now in
     let i = c.loop-i.i in
-    sym (c.loop-i.invariant.1
+    sym (c.loop-i.invariant
     ∙ highest-here (xs b) i (omega arith) (above-yes w8 (entry b (i - 1)) (search rules) c.if-b-i-gt0.true))
 
 pub loop-i-preserved : goal.loop-i-preserved
 loop-i-preserved c =
     let b = c.args.b.now in
-    let i = c.loop-i.i in (
-      omega arith,
-      c.loop-i.invariant.1
-          ∙ highest-less (xs b) i (omega arith) (above-no w8 (entry b (i - 1)) (search rules) c.if-b-i-gt0.false),
-    )
+    let i = c.loop-i.i in
+    c.loop-i.invariant
+    ∙ highest-less (xs b) i (omega arith) (above-no w8 (entry b (i - 1)) (search rules) c.if-b-i-gt0.false)
 
 pub returns : goal.returns
 unfolding highest
-returns c = let e : c.loop-i.i ≡ 0 = omega arith in sym (c.loop-i.invariant.1 ∙ rw e)
+returns c = let e : c.loop-i.i ≡ 0 = omega arith in sym (c.loop-i.invariant ∙ rw e)

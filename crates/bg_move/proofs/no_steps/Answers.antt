@@ -1,8 +1,0 @@
-use mathlib.Core.Path.{refl}
-use Rattle.ints.specs.Sums.{values}
-use Rattle.bg_move.specs.Answers.{steps_value}
-use Rattle.bg_move.proofs.no_steps.Goals as goal
-
-pub returns : goal.returns
-unfolding steps_value values
-returns c = refl
