@@ -18,6 +18,9 @@ use Rattle.ints.proofs.Refusals.{number-pos}
 use Rattle.ints.proofs.Tests.{by_cond}
 use Rattle.dice.proofs.TwoDice.{test-die}
 use Rattle.position.specs.Board.{refusal_of, switched}
+use Rattle.position.specs.Answers.{unaccepted_in}
+use Rattle.position.specs.declared.Checkers.{Checkers}
+use Rattle.position.specs.declared.Unaccepted.{Unaccepted}
 use Rattle.position.proofs.Boards.{accepted-unrefused}
 use Rattle.rules.specs.Ends.{ends_of, switched_ends_of, among}
 use Rattle.rules.proofs.Accepted.{end-accepted}
@@ -31,15 +34,15 @@ use Rattle.bg_move.specs.declared.Steps.{Steps}
 use Rattle.bg_move.specs.Steps.{steps_of}
 use Rattle.bg_move.specs.Answers.{recover_refusal, recovered, steps_value, recovered_told, recovered_answer}
 
--- ---- a test of an answer
+-- ---- a test of a board's check
 
-pub err-refused : {A : Type 0} (r : Result A Refusal) → is_err r ≡ true → 0 < refusal_in r
-err-refused (Ok a) h = cc
-err-refused (Err why) h = number-pos why
+pub err-refused : (r : Result Checkers Unaccepted) → is_err r ≡ true → 0 < unaccepted_in r
+err-refused (Ok all) h = cc
+err-refused (Err u) h = number-pos u.why
 
-pub unrefused : {A : Type 0} (r : Result A Refusal) → is_err r ≡ false → refusal_in r ≡ 0
-unrefused (Ok a) h = refl
-unrefused (Err why) h = cc
+pub unrefused : (r : Result Checkers Unaccepted) → is_err r ≡ false → unaccepted_in r ≡ 0
+unrefused (Ok all) h = refl
+unrefused (Err u) h = cc
 
 -- ---- whether a board told from the mover's side is an end
 

@@ -1,14 +1,15 @@
 -- The row of steps that is lent: what is answered, and the row afterwards, where the answer is a refusal, where the row has too few places, and
 -- where the steps are copied to its first places.
 -- Assumes nothing.
-use mathlib.Core.Path.{◌≡◌, refl, ap, ◌∙◌}
+use mathlib.Core.Path.{◌≡◌, refl, sym, ap, ◌∙◌}
 use mathlib.Core.List.{List, [], ◌∷◌, ◌++◌}
-use Prim.Native.Nat.{ℕ, ◌*◌, ◌≤◌, ◌<◌}
+use Prim.Native.Nat.{ℕ, suc, ◌+◌, ◌*◌, ◌≤◌, ◌<◌}
 use native.Mathlib.Omega.{arith}
 use borrow.Author.Tests.{lt-ltb, le-ltb, ne_eqb}
 use lib.Dec.{eqb}
 use lib.IntN.{ℤ}
-use lib.ListN.{length, take, drop}
+use lib.ListN.{length, get_or, set, take, drop, length-append, length-drop}
+use lib.Seq.{take-suc, take_all, drop-cons, set_at, append_snoc, length-take-le}
 use Rattle.std.specs.Prelude.{Ok, Err}
 use Rattle.ints.specs.Answer.{packed}
 use Rattle.ints.specs.Refusals.{number}
@@ -34,6 +35,34 @@ take-places (s ∷ t ∷ []) h = refl
 take-places (s ∷ t ∷ u ∷ []) h = refl
 take-places (s ∷ t ∷ u ∷ v ∷ []) h = refl
 take-places (s ∷ t ∷ u ∷ v ∷ w ∷ ts) h = absurd (omega arith)
+
+-- the first i steps of a list before what stood in the other places, and one step more
+pub laid : List Step → ℕ → List Step → List Step
+laid ts i row = take i ts ++ drop i row
+
+pub laid-none : (ts row : List Step) → row ≡ laid ts 0 row
+unfolding laid
+laid-none ts row = refl
+
+pub length-laid : (ts row : List Step) (i : ℕ) → i ≤ length ts → i ≤ length row → length (laid ts i row) ≡ length row
+unfolding laid
+length-laid ts row i h m = omega (arith, length-append (take i ts) (drop i row), length-take-le i ts h, length-drop i row)
+
+pub laid_more : (ts row : List Step) (i : ℕ) (d : Step) → i < length ts → i < length row → set (laid ts i row) i (get_or ts i d) ≡ laid ts (i + 1) row
+unfolding laid
+laid_more ts row i d h m =
+    let t = get_or ts i d in
+    let n : i + 1 ≡ suc i = omega arith in
+    rw n (
+    ap (λ (l : List Step). set (take i ts ++ l) i t) (drop-cons row i t m)
+    ∙ set_at (take i ts) (get_or row i t) (drop (suc i) row) t i (length-take-le i ts (omega arith))
+    ∙ sym (append_snoc (take i ts) t (drop (suc i) row))
+    ∙ ap (λ (l : List Step). l ++ drop (suc i) row) (sym (take-suc ts i d h))
+    )
+
+pub laid-all : (ts row : List Step) → laid ts (length ts) row ≡ ts ++ drop (length ts) row
+unfolding laid
+laid-all ts row = ap (λ (l : List Step). l ++ drop (length ts) row) (take_all (length ts) ts (omega arith))
 
 module _ (n : ℕ) (b : List ℤ) (d1 d2 : ℕ) (e : List ℤ) (row : List Step) where
   abbrev steps : List Step

@@ -49,5 +49,10 @@ fn slot_of(slots: &[u8; BYTES], n: usize, board: &[i8; 26]) -> Option<usize>
 fn holds(slot: &[u8; 26], board: &[i8; 26]) -> bool
     ensures { IsTrue result ↔ map from_twos slot.now ≡ board.now }
 {
-    slot.map(ints::entry_of) == *board
+    for i in 0..26 {
+        if ints::entry_of(slot[i]) != board[i] {
+            return false;
+        }
+    }
+    true
 }

@@ -63,6 +63,11 @@ pub trait Net {
         requires { Accepted checkers b.now }
         ensures { Rows result (counts b.now) };
 
+    // The row of one point, by its place.
+    fn row_at(b: &[i8; 26], k: usize) -> u8
+        requires { Accepted checkers b.now × (k < length (counts b.now)) }
+        ensures { Row result (get_or (counts b.now) k 0) };
+
     ghost four_each: { (b : List ℤ) → 2 + 4 * length (counts b) ≡ SIZE };
 
     ghost most: { SIZE ≤ 202 };
@@ -93,6 +98,16 @@ impl Net for Contact {
         }
         rows
     }
+
+    fn row_at(b: &[i8; 26], k: usize) -> u8 {
+        if k == 0 {
+            return row(b[position::X_BAR]);
+        }
+        if k < 25 {
+            return row(b[k]);
+        }
+        row(-b[k - 25])
+    }
 }
 
 // The race net: x on 1 to 23, o on 2 to 24.
@@ -118,6 +133,13 @@ impl Net for Race {
             rows[21 + p] = row(-b[p]);
         }
         rows
+    }
+
+    fn row_at(b: &[i8; 26], k: usize) -> u8 {
+        if k < 23 {
+            return row(b[k + 1]);
+        }
+        row(-b[k - 21])
     }
 }
 
@@ -154,8 +176,8 @@ pub fn input<N: Net>(b: [i8; 26], place: usize) -> Result<f32, Refusal>
     if place == 1 {
         return Ok(off(all.o));
     }
-    let rows = N::rows(&b);
-    Ok(td_input(rows[(place - 2) / 4], (place - 2) % 4))
+    let row = N::row_at(&b, (place - 2) / 4);
+    Ok(td_input(row, (place - 2) % 4))
 }
 
 // A side's checkers that are off, n being those on the board.

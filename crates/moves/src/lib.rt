@@ -109,5 +109,9 @@ pub fn fill(b: &[i8; 26], die1: usize, die2: usize, out: &mut [u8], from: usize)
 fn board_of(bytes: [u8; 26]) -> [i8; 26]
     ensures { result ≡ map from_twos bytes }
 {
-    bytes.map(ints::entry_of)
+    let mut board = [0i8; 26];
+    for i in 0..26 {
+        board[i] = ints::entry_of(bytes[i]);
+    }
+    board
 }

@@ -25,7 +25,7 @@ use ints::refusal::{Refusal, Refused};
 pub fn munchalep_check(board: &[i8; 26]) -> u64
     ensures { result ≡ refusal_of checkers board.now }
 {
-    refusal_number(position::check(*board))
+    refusal_number(position::check(*board).map_err(Refusal::from))
 }
 
 // The board seen from the other side.

@@ -3,14 +3,15 @@
 use Rattle.std.proofs.Common.{◌≡◌, refl, sym, ap, ap₂, subst, ◌∙◌, true, false, List, ℕ, ◌≤◌, ◌<◌, ℤ, Result, Ok, Err}
 use native.Mathlib.Omega.{arith}
 use borrow.Author.Tests.{lt-ltb, le-ltb, ne_eqb}
-use Rattle.ints.specs.Refusals.{number, refusal_in}
+use Rattle.ints.specs.Refusals.{number}
 use Rattle.ints.specs.declared.refusal.Refusal.{Refusal}
 use Rattle.ints.proofs.Refusals.{number-pos}
 use Rattle.dice.specs.Dice.{is_die}
 use Rattle.position.specs.Board.{Accepted, x_all, o_all, refusal_of}
 use Rattle.position.specs.Step.{can_step, step_refusal}
-use Rattle.position.specs.Answers.{BoardAnswer, Counted, no_board, board_answer, board_told}
+use Rattle.position.specs.Answers.{BoardAnswer, Counted, unaccepted_in, no_board, board_answer, board_told}
 use Rattle.position.specs.declared.Checkers.{Checkers}
+use Rattle.position.specs.declared.Unaccepted.{Unaccepted}
 
 abbrev whole : ℕ → List ℤ → BoardAnswer
 whole k b = record { refused = k; board = b }
@@ -39,14 +40,14 @@ pub record Passed (n : ℕ) (b : List ℤ) (all : Checkers) : Type 0 where
   pub x : all.x ≡ x_all b
   pub o : all.o ≡ o_all b
 
-module _ {n : ℕ} {b : List ℤ} {r : Result Checkers Refusal} (k : Counted n b r) where
+module _ {n : ℕ} {b : List ℤ} {r : Result Checkers Unaccepted} (k : Counted n b r) where
   pub passed : {all : Checkers} → r ≡ Ok all → Passed n b all
   passed {all} e =
       let j : Counted n b (Ok all) = subst (Counted n b) e k in
-      record { ok = sym j.judged.is; accepted = j.judged.ok refl; x = j.counts.0; o = j.counts.1 }
+      record { ok = sym j.judged.is; accepted = j.judged.ok refl; x = j.x; o = j.o }
 
-  pub refused-by : {why : Refusal} → r ≡ Err why → number why ≡ refusal_of n b
-  refused-by e = sym (ap refusal_in e) ∙ k.judged.is
+  pub refused-by : {u : Unaccepted} → r ≡ Err u → number u.why ≡ refusal_of n b
+  refused-by e = sym (ap unaccepted_in e) ∙ k.judged.is
 
 -- a step's refusal, by the first test that holds
 module _ (n : ℕ) (b : List ℤ) (p d : ℕ) where

@@ -9,6 +9,7 @@ use Rattle.ints.proofs.Refusals.{number-apart, number-pos, checks-apart}
 use Rattle.position.specs.Phase.{phase_answer}
 use Rattle.position.specs.Answers.{BoardAnswer, Judged, Started, Counted, board_told, switch_answer, step_answer, phase_number, phase_told}
 use Rattle.position.specs.declared.Checkers.{Checkers}
+use Rattle.position.specs.declared.Unaccepted.{Unaccepted}
 use Rattle.position.specs.declared.phase.GamePhase.{GamePhase}
 use Rattle.position.specs.declared.phase.GamePhase.TheVariants.{Contact, Race, WinNormal, WinGammon, WinBg, LoseNormal, LoseGammon, LoseBg}
 
@@ -21,12 +22,20 @@ same-checkers c d e f =
     let with : ℕ → ℕ → Checkers = λ x o. record { x = x; o = o } in
     ap (λ (x : ℕ). with x c.o) e ∙ ap (with d.x) f
 
-pub check-unique : (n : ℕ) (b : List ℤ) (r s : Result Checkers Refusal) → Counted n b r → Counted n b s → r ≡ s
-check-unique n b (Ok c) (Ok d) p q =
-    ap Ok (same-checkers c d (one_answer p.counts.0 q.counts.0) (one_answer p.counts.1 q.counts.1))
-check-unique n b (Ok c) (Err s) p q = absurd (omega (arith, p.judged.is, q.judged.is, number-pos s))
-check-unique n b (Err r) (Ok d) p q = absurd (omega (arith, p.judged.is, q.judged.is, number-pos r))
-check-unique n b (Err r) (Err s) p q = ap Err (number-apart r s (one_answer p.judged.is q.judged.is))
+-- refused boards' refusals and checkers, told apart
+same-unaccepted : (u v : Unaccepted) → u.why ≡ v.why → u.all ≡ v.all → u ≡ v
+same-unaccepted u v e f =
+    let with : Refusal → Checkers → Unaccepted = λ why all. record { why = why; all = all } in
+    ap (λ (why : Refusal). with why u.all) e ∙ ap (with v.why) f
+
+pub check-unique : (n : ℕ) (b : List ℤ) (r s : Result Checkers Unaccepted) → Counted n b r → Counted n b s → r ≡ s
+check-unique n b (Ok c) (Ok d) p q = ap Ok (same-checkers c d (one_answer p.x q.x) (one_answer p.o q.o))
+check-unique n b (Ok c) (Err s) p q = absurd (omega (arith, p.judged.is, q.judged.is, number-pos s.why))
+check-unique n b (Err r) (Ok d) p q = absurd (omega (arith, p.judged.is, q.judged.is, number-pos r.why))
+check-unique n b (Err r) (Err s) p q =
+    ap Err
+    (same-unaccepted r s (number-apart r.why s.why (one_answer p.judged.is q.judged.is))
+    (same-checkers r.all s.all (one_answer p.x q.x) (one_answer p.o q.o)))
 
 -- what is answered of a board tells a refusal from a board, and each from others
 pub board_told-apart : (r s : Result (List ℤ) Refusal) → board_told r ≡ board_told s → r ≡ s

@@ -1,11 +1,12 @@
 -- What the entries answer (document 01, "Refusal numbers": a refusal's answer holds its number and nothing else).
-use Rattle.std.specs.Prelude.{◌≡◌, cond, List, ℕ, eqb, ℤ, pos, replicate, Result, Ok, Err, IfOk}
+use Rattle.std.specs.Prelude.{◌≡◌, cond, List, ℕ, eqb, ℤ, pos, replicate, Result, Ok, Err}
 use Rattle.ints.specs.Answer.{Answer, value, refused}
-use Rattle.ints.specs.Refusals.{number, refusal_in}
+use Rattle.ints.specs.Refusals.{number}
 use Rattle.ints.specs.declared.refusal.Refusal.{Refusal}
 use Rattle.position.specs.Board.{Accepted, x_all, o_all, refusal_of, start_refusal, switched}
 use Rattle.position.specs.Step.{stepped, step_refusal}
 use Rattle.position.specs.declared.Checkers.{Checkers}
+use Rattle.position.specs.declared.Unaccepted.{Unaccepted}
 use Rattle.position.specs.declared.phase.GamePhase.{GamePhase}
 use Rattle.position.specs.declared.phase.GamePhase.TheVariants.{Contact, Race, WinNormal, WinGammon, WinBg, LoseNormal, LoseGammon, LoseBg}
 
@@ -19,10 +20,21 @@ pub record Started (n : ℕ) (b : List ℤ) (r : ℕ) : Type 0 where
   pub is : r ≡ start_refusal n b
   pub ok : r ≡ 0 → Accepted n b
 
+-- the number of a board's refusal, 0 for none
+abbrev pub unaccepted_in : Result Checkers Unaccepted → ℕ
+unaccepted_in (Ok all) = 0
+unaccepted_in (Err u) = number u.why
+
+-- both sides' checkers, of a refused board too
+abbrev pub checkers_in : Result Checkers Unaccepted → Checkers
+checkers_in (Ok all) = all
+checkers_in (Err u) = u.all
+
 -- the check of a board that counts both sides' checkers
-pub record Counted (n : ℕ) (b : List ℤ) (r : Result Checkers Refusal) : Type 0 where
-  pub judged : Judged n b (refusal_in r)
-  pub counts : IfOk r (λ all. (all.x ≡ x_all b) × (all.o ≡ o_all b))
+pub record Counted (n : ℕ) (b : List ℤ) (r : Result Checkers Unaccepted) : Type 0 where
+  pub judged : Judged n b (unaccepted_in r)
+  pub x : (checkers_in r).x ≡ x_all b
+  pub o : (checkers_in r).o ≡ o_all b
 
 -- a refusal's number, 0 for none, and a board
 pub record BoardAnswer : Type 0 where

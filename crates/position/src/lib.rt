@@ -27,22 +27,49 @@ pub struct Checkers {
     pub o: u32,
 }
 
-// Both sides' checkers, or the first refusal of any 26 entries. Sums are whole numbers: none can wrap.
-pub fn check(b: [i8; 26]) -> Result<Checkers, Refusal>
+// Why a board is not accepted, and how many checkers each side has on it.
+#[derive(Clone, Copy, Debug, PartialEq, Eq)]
+pub struct Unaccepted {
+    pub why: Refusal,
+    pub all: Checkers,
+}
+
+impl From<Unaccepted> for Refusal {
+    ghost from_gives = { λ unaccepted why. why ≡ unaccepted.why };
+
+    fn from(unaccepted: Unaccepted) -> Refusal {
+        unaccepted.why
+    }
+}
+
+// Both sides' checkers, of any 26 entries, and the first refusal if there is one. Sums are whole numbers: none can wrap.
+pub fn check(b: [i8; 26]) -> Result<Checkers, Unaccepted>
     ensures { Counted checkers b result }
 {
     let all = checkers_below(&b, 26);
     if all.x > NUM_OF_CHECKERS {
-        return Err(Refusal::XOver15);
+        return Err(Unaccepted {
+            why: Refusal::XOver15,
+            all,
+        });
     }
     if all.o > NUM_OF_CHECKERS {
-        return Err(Refusal::OOver15);
+        return Err(Unaccepted {
+            why: Refusal::OOver15,
+            all,
+        });
     }
     if b[X_BAR] < 0 {
-        return Err(Refusal::XBarNegative);
+        return Err(Unaccepted {
+            why: Refusal::XBarNegative,
+            all,
+        });
     }
     if b[O_BAR] > 0 {
-        return Err(Refusal::OBarPositive);
+        return Err(Unaccepted {
+            why: Refusal::OBarPositive,
+            all,
+        });
     }
     Ok(all)
 }

@@ -35,12 +35,17 @@ struct Stored {
 
 impl From<[u8; RECORD]> for Stored {
     fn from(record: [u8; RECORD]) -> Stored {
+        let values: [u8; FLOATS] = stored::bytes(&record, 29);
+        let mut floats = [0; FLOATS];
+        for i in 0..FLOATS {
+            floats[i] = bits(values[i]);
+        }
         Stored {
             net: Net::from(record[0]),
             length: usize::from(record[1]),
             board: stored::board(&record, 2),
             refusal: u64::from(record[28]),
-            floats: stored::bytes(&record, 29).map(bits),
+            floats,
         }
     }
 }

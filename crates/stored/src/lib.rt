@@ -252,5 +252,10 @@ pub fn eight(record: &[u8], at: usize) -> u64 {
 
 // The board in 26 bytes from `at` on, two's complement.
 pub fn board(record: &[u8], at: usize) -> [i8; 26] {
-    bytes(record, at).map(|byte: u8| byte.cast_signed())
+    let bytes: [u8; 26] = bytes(record, at);
+    let mut board = [0; 26];
+    for i in 0..26 {
+        board[i] = bytes[i].cast_signed();
+    }
+    board
 }

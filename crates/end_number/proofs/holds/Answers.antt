@@ -1,23 +1,30 @@
--- Each entry that is compared is that of its byte.
-use mathlib.Core.Path.{◌≡◌, sym, ◌∙◌}
+-- The entries are compared one by one, each with that of its byte.
+use mathlib.Core.Path.{◌≡◌, refl, sym, ap, ◌∙◌}
+use mathlib.Core.List.{List, map}
 use native.Mathlib.Omega.{arith}
-use lib.IntN.{pos}
-use lib.ListN.{get_or, length-map}
+use mir.Syntax.{w8}
+use mir.Val.{of_z}
+use lib.IntN.{ℤ, pos}
+use lib.ListN.{length, get_or, length-map}
 use lib.Seq.{ext_get_or}
-use Rattle.std.proofs.Common.{rules, map}
-use Rattle.std.specs.Cmp.Rules.{signed_items}
+use Rattle.std.proofs.Common.{rules}
 use Rattle.ints.specs.Twos.{from_twos}
 use Rattle.moves.proofs.Entries.{get_or-from}
 use Rattle.end_number.proofs.holds.Goals as goal
 
+pub returns-then-entry_of-board : goal.returns-then-entry_of-board
+returns-then-entry_of-board c =
+    let l = c.args.slot.now in (
+      λ t. cc,
+      λ h. absurd (c.if-entry_of-board.true
+          (ap (of_z w8) (c.entry_of.ensures ∙ sym (get_or-from l c.loop-i.i (omega (arith, c.told-slot))) ∙ ap (λ (x : List ℤ). get_or x c.loop-i.i (pos 0)) h))),
+    )
+
 pub returns : goal.returns
 returns c =
     let l = c.args.slot.now in
-    let m = c.map.ensures.items in
-    let e : c.map.result ≡ map from_twos l =
-    ext_get_or (pos 0) c.map.result (map from_twos l) (m.long ∙ sym (length-map l from_twos ∙ c.told-slot))
-    (λ k h.
-    let at = m.at k 0 (pos 0) (omega (arith, m.long)) in
-    let e : get_or c.map.result k (pos 0) ≡ from_twos (get_or l k 0) = search rules in
-    e ∙ sym (get_or-from l k (omega (arith, m.long, c.told-slot)))) in
-    rw (← e, c.eq.ensures) (signed_items c.map.result c.args.board.now)
+    let size : length (map from_twos l) ≡ 26 = length-map l from_twos ∙ c.told-slot in (
+      λ t. ext_get_or (pos 0) (map from_twos l) c.args.board.now (omega (arith, size))
+          (λ k h. get_or-from l k (omega (arith, size, c.told-slot)) ∙ c.loop-i.invariant k (omega (arith, size))),
+      λ h. refl,
+    )

@@ -14,7 +14,7 @@ use Rattle.inputs.proofs.fill.Goals as goal
 pub returns-in_err-all : goal.returns-in_err-all
 returns-in_err-all g c =
     let b = c.args.b.now in
-    let why = c.in_err-all.field-0.0 in
+    let why = c.in_err-all.field-0.0.why in
     let e : c.from_residual.result ≡ Err why = search rules in
     let f = fill-board _ g.N.Net.SIZE (inputs_of checkers b (g.N.Net.counts b)) c.args.out.now why (refused-by c.check.ensures c.in_err-all.was) in
     (ap filled_told e ∙ f.0, f.1)

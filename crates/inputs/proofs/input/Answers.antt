@@ -19,7 +19,7 @@ there g c = place-value _ _ _ c.args.place (passed c.check.ensures c.in_ok-all.w
 pub returns-in_err-all : goal.returns-in_err-all
 returns-in_err-all g c =
     let b = c.args.b in
-    let why = c.in_err-all.field-0.0 in
+    let why = c.in_err-all.field-0.0.why in
     let e : c.from_residual.result ≡ Err why = search rules in
     ap input_told e ∙ place-board _ g.N.Net.SIZE (inputs_of checkers b (g.N.Net.counts b)) c.args.place why (refused-by c.check.ensures c.in_err-all.was)
 
@@ -44,6 +44,12 @@ returns-then-place-eq1 g c =
     ∙ ap (λ (p : ℕ). whole (get_or (inputs_of checkers c.args.b (g.N.Net.counts c.args.b)) p 0)) (sym c.if-place-eq1.true))
     ∙ there g (goal.at.returns-then-place-eq1 g c).Else-place-SIZE
 
+pub row_at-row-requires : goal.row_at-row-requires
+row_at-row-requires g c =
+    let s = g.met.N.Net.four_each c.args.b in
+    let l : 2 ≤ c.args.place = omega (arith, c.if-place-eq0.false, c.if-place-eq1.false) in
+    ((passed c.check.ensures c.in_ok-all.was).accepted, omega arith)
+
 pub returns : goal.returns
 returns g c =
     let b = c.args.b in
@@ -51,7 +57,7 @@ returns g c =
     let s = g.met.N.Net.four_each b in
     let l : 2 ≤ p = omega (arith, c.if-place-eq0.false, c.if-place-eq1.false) in
     let h : p < 2 + 4 * length (g.N.Net.counts b) = omega arith in
-    let w = c.rows-rows.ensures ((p - 2) / 4) (omega arith) in
+    let w = c.row_at-row.ensures in
     ap given
     (c.td_input.ensures
     ∙ ap (λ (n : ℕ). whole (get_or (four n) ((p - 2) % 4) 0)) w.is

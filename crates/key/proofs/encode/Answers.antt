@@ -8,7 +8,7 @@ use Rattle.key.proofs.encode.Goals as goal
 
 pub returns-in_err-check : goal.returns-in_err-check
 returns-in_err-check c =
-    let why = c.in_err-check.field-0.0 in
+    let why = c.in_err-check.field-0.0.why in
     let e : c.from_residual.result ≡ Err why = search rules in
     ap key_told e ∙ key-refused checkers c.args.b why (refused-by c.check.ensures c.in_err-check.was)
 

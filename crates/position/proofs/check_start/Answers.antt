@@ -11,9 +11,10 @@ use Rattle.position.proofs.check_start.Goals as goal
 
 pub returns-in_err-x : goal.returns-in_err-x
 returns-in_err-x c =
-    let e : c.from_residual.result ≡ Err c.in_err-x.field-0.0 = search rules in
+    let why = c.in_err-x.field-0.0.why in
+    let e : c.from_residual.result ≡ Err why = search rules in
     let k : Judged checkers c.args.b (refusal_in c.from_residual.result) = rw e c.in_err-x.ensures.judged in
-    started-board checkers _ k (λ z. omega (arith, (rw e at z), number-pos c.in_err-x.field-0.0))
+    started-board checkers _ k (λ z. omega (arith, (rw e at z), number-pos why))
 
 pub returns-then-x-o-eq0 : goal.returns-then-x-o-eq0
 returns-then-x-o-eq0 c =

@@ -11,7 +11,7 @@ use Rattle.position.proofs.switch.Goals as goal
 pub returns-in_err-check : goal.returns-in_err-check
 unfolding switch_answer
 returns-in_err-check c =
-    let why = c.in_err-check.field-0.0 in
+    let why = c.in_err-check.field-0.0.why in
     let e : c.from_residual.result ≡ Err why = search rules in
     let n = refused-by c.check.ensures c.in_err-check.was in
     ap board_told e ∙ err-told why (switched c.args.b) _ n

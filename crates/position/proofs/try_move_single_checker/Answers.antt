@@ -28,7 +28,7 @@ die c = sym c.is_die.ensures ∙ c.if-not-is_die.false
 
 pub returns-in_err-check : goal.returns-in_err-check
 returns-in_err-check c =
-    let why = c.in_err-check.field-0.0 in
+    let why = c.in_err-check.field-0.0.why in
     let e : c.from_residual.result ≡ Err why = search rules in
     let n = refused-by c.check.ensures c.in_err-check.was in
     ap board_told e

@@ -31,10 +31,10 @@ loop-p-2-init c =
     rw e at c.loop-p.invariant
 
 pub overflow_sub-b : goal.overflow_sub-b
-overflow_sub-b c = o-fits c.requires c.loop-p-2.p (omega arith)
+overflow_sub-b c = o-fits c.requires _ (omega arith)
 
 pub row-requires-in-loop-p-2 : goal.row-requires-in-loop-p-2
-row-requires-in-loop-p-2 c = let w = o-own c.requires c.loop-p-2.p (omega arith) in (w.most, w.least)
+row-requires-in-loop-p-2 c = ((o-own c.requires _ (omega arith)).most, (o-own c.requires _ (omega arith)).least)
 
 pub loop-p-2-preserved : goal.loop-p-2-preserved
 loop-p-2-preserved c =

@@ -11,7 +11,7 @@ use Rattle.position.proofs.phase.game_phase.Goals as goal
 
 pub returns-in_err-x : goal.returns-in_err-x
 returns-in_err-x c =
-    let why = c.in_err-x.field-0.0 in
+    let why = c.in_err-x.field-0.0.why in
     let e : c.from_residual.result ≡ Err why = search rules in
     let n = refused-by c.check.ensures c.in_err-x.was in
     ap phase_told e ∙ ap (λ (k : ℕ). refused k 0) n ∙ phase-refused checkers c.args.b (omega (arith, n, number-pos why))
