@@ -43,7 +43,10 @@ pub fn replay(card: &[u8], stop: usize) -> Result<Reading, Refused>
                 carried: at,
             });
         }
-        last = turn(last, bytes).map_err(|why| Refused { why, carried: at })?;
+        last = match turn(last, bytes) {
+            Ok(next) => next,
+            Err(why) => return Err(Refused { why, carried: at }),
+        };
         turns += 1;
         if turns == stop {
             asked = Some(last);

@@ -4,7 +4,7 @@ use Prim.Native.Nat.{◌≤◌, ◌+◌, ◌*◌}
 use native.Mathlib.Omega.{arith}
 use lib.ListN.{length, drop, length-drop}
 use lib.Seq.{take_all}
-use Rattle.std.proofs.Common.{rules, Ok}
+use Rattle.std.proofs.Common.{rules, Ok, Err}
 use Rattle.std.specs.Slice.Iter.{chunks_rest, chunks_size}
 use Rattle.ints.specs.Answer.{refused}
 use Rattle.position.specs.Board.{checkers}
@@ -53,19 +53,17 @@ returns-then-turns-eq-MAX_TURNS c =
     let e : 12 + s.loop-bytes.turns * 5 ≡ turn_at s.loop-bytes.turns = omega arith in
     rw e (one-over checkers turns_most c.args.card.now c.args.stop s.loop-bytes.invariant.3 (cut s) c.if-turns-eq-MAX_TURNS.true)
 
-pub returns-in_err-last-2 : goal.returns-in_err-last-2
-returns-in_err-last-2 c =
-    let s = (goal.at.returns-in_err-last-2 c).In-Some in
-    let e = c.in_err-last-2.field-0.0 in
-    let told : refused (number e.why) e.carried ≡ read_answer checkers turns_most c.args.card.now =
+pub returns-in-Err : goal.returns-in-Err
+returns-in-Err c =
+    let s = (goal.at.returns-in-Err c).In-Some in
+    let at = 12 + s.loop-bytes.turns * 5 in
     turn-refused checkers turns_most c.args.card.now c.args.stop s.loop-bytes.invariant.3 (cut s) c.if-turns-eq-MAX_TURNS.false
-    c.turn.result c.turn.ensures e (12 + s.loop-bytes.turns * 5) (omega arith) (λ x q. search rules) (λ why q. search rules) in
-    search rules
+    (Err c.in-Err.why) c.in-Err.ensures (record { why = c.in-Err.why; carried = at }) at (omega arith) (λ x q. cc) (λ why q. search rules)
 
 pub loop-bytes-preserved-then-turns-stop : goal.loop-bytes-preserved-then-turns-stop
 loop-bytes-preserved-then-turns-stop c =
     let s = (goal.at.loop-bytes-preserved-then-turns-stop c).In-Some in
-    let t : TurnRead checkers c.loop-bytes.last c.in-Some.bytes.now (Ok c.in_ok-last-2.last) = search rules in
+    let t : TurnRead checkers c.loop-bytes.last c.in-Some.bytes.now (Ok c.in-Ok.next) = c.in-Ok.ensures in
     let size = c.in-Some.ensures.steps.0 ∙ s.loop-bytes.invariant.2 in (
       omega arith,
       tt,
@@ -76,7 +74,7 @@ loop-bytes-preserved-then-turns-stop c =
 pub loop-bytes-preserved : goal.loop-bytes-preserved
 loop-bytes-preserved c =
     let s = (goal.at.loop-bytes-preserved c).In-Some in
-    let t : TurnRead checkers c.loop-bytes.last c.in-Some.bytes.now (Ok c.in_ok-last-2.last) = search rules in
+    let t : TurnRead checkers c.loop-bytes.last c.in-Some.bytes.now (Ok c.in-Ok.next) = c.in-Ok.ensures in
     let size = c.in-Some.ensures.steps.0 ∙ s.loop-bytes.invariant.2 in (
       omega arith,
       tt,
