@@ -12,15 +12,12 @@ use lib.ListN.{length}
 use Rattle.std.specs.Prelude.{Result, Ok, Err}
 use Rattle.std.specs.Result.{is_ok, is_err}
 use Rattle.ints.specs.Answer.{Answer, value, refused}
-use Rattle.ints.specs.Refusals.{number, refusal_in}
+use Rattle.ints.specs.Refusals.{number}
 use Rattle.ints.specs.declared.refusal.Refusal.{Refusal}
 use Rattle.ints.proofs.Refusals.{number-pos}
 use Rattle.ints.proofs.Tests.{by_cond}
 use Rattle.dice.proofs.TwoDice.{test-die}
 use Rattle.position.specs.Board.{refusal_of, switched}
-use Rattle.position.specs.Answers.{unaccepted_in}
-use Rattle.position.specs.declared.Checkers.{Checkers}
-use Rattle.position.specs.declared.Unaccepted.{Unaccepted}
 use Rattle.position.proofs.Boards.{accepted-unrefused}
 use Rattle.rules.specs.Ends.{ends_of, switched_ends_of, among}
 use Rattle.rules.proofs.Accepted.{end-accepted}
@@ -34,15 +31,16 @@ use Rattle.bg_move.specs.declared.Steps.{Steps}
 use Rattle.bg_move.specs.Steps.{steps_of}
 use Rattle.bg_move.specs.Answers.{recover_refusal, recovered, steps_value, recovered_told, recovered_answer}
 
--- ---- a test of a board's check
+-- ---- a test of an answer, whose number is 0 where it is no refusal
 
-pub err-refused : (r : Result Checkers Unaccepted) → is_err r ≡ true → 0 < unaccepted_in r
-err-refused (Ok all) h = cc
-err-refused (Err u) h = number-pos u.why
+module _ {A E : Type 0} (told : Result A E → ℕ) (fine : (a : A) → told (Ok a) ≡ 0) (wrong : (why : E) → 0 < told (Err why)) where
+  pub err-refused : (r : Result A E) → is_err r ≡ true → 0 < told r
+  err-refused (Ok a) h = cc
+  err-refused (Err why) h = wrong why
 
-pub unrefused : (r : Result Checkers Unaccepted) → is_err r ≡ false → unaccepted_in r ≡ 0
-unrefused (Ok all) h = refl
-unrefused (Err u) h = cc
+  pub unrefused : (r : Result A E) → is_err r ≡ false → told r ≡ 0
+  unrefused (Ok a) h = fine a
+  unrefused (Err why) h = cc
 
 -- ---- whether a board told from the mover's side is an end
 

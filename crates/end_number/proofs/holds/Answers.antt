@@ -7,7 +7,6 @@ use mir.Val.{of_z}
 use lib.IntN.{ℤ, pos}
 use lib.ListN.{length, get_or, length-map}
 use lib.Seq.{ext_get_or}
-use Rattle.std.proofs.Common.{rules}
 use Rattle.ints.specs.Twos.{from_twos}
 use Rattle.moves.proofs.Entries.{get_or-from}
 use Rattle.end_number.proofs.holds.Goals as goal

@@ -1,5 +1,5 @@
 -- The refusals in their order, the two sides' checkers off, and the values of a point.
-use Rattle.std.proofs.Common.{rules, Err, ◌≡◌, sym, ap, ◌∙◌, ℕ, ◌+◌, ◌-◌, ◌*◌, ◌/◌, ◌%◌, ◌<◌, ◌≤◌, length, get_or}
+use Rattle.std.proofs.Common.{rules, Err, ◌≡◌, sym, ap, ◌∙◌, ℕ, ◌+◌, ◌-◌, ◌*◌, ◌%◌, ◌<◌, ◌≤◌, length, get_or}
 use native.Mathlib.Omega.{arith}
 use Rattle.position.specs.Board.{checkers, refusal_of}
 use Rattle.position.proofs.Answering.{passed, refused-by}

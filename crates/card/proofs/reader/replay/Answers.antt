@@ -6,11 +6,9 @@ use lib.ListN.{length, drop, length-drop}
 use lib.Seq.{take_all}
 use Rattle.std.proofs.Common.{rules, Ok, Err}
 use Rattle.std.specs.Slice.Iter.{chunks_rest, chunks_size}
-use Rattle.ints.specs.Answer.{refused}
 use Rattle.position.specs.Board.{checkers}
 use Rattle.card.specs.Game.{turns_most}
-use Rattle.card.specs.Read.{read_answer, turn_at}
-use Rattle.ints.specs.Refusals.{number}
+use Rattle.card.specs.Read.{turn_at}
 use Rattle.card.specs.Replay.{TurnRead}
 use Rattle.card.proofs.Starts.{unrefused-begun}
 use Rattle.card.proofs.Replays.{no-start, going_start, all-read, one-over, turn-refused, going_on, Cut}

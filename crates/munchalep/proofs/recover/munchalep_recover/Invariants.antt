@@ -1,5 +1,5 @@
 -- After i stores the row is the first i steps, and what stood in the other places.
-use Rattle.std.proofs.Common.{◌≡◌, length}
+use Rattle.std.proofs.Common.{◌≡◌}
 use Rattle.bg_move.proofs.Rows.{laid}
 use Rattle.munchalep.proofs.recover.munchalep_recover.Given as goal
 
