@@ -8,7 +8,7 @@ use native.Mathlib.Omega.{arith}
 use borrow.Author.Tests.{lt-ltb, le-ltb, ne_eqb}
 use lib.Dec.{eqb}
 use lib.IntN.{ℤ}
-use lib.ListN.{length, get_or, set, take, drop, length-append, length-drop}
+use lib.ListN.{length, get_or, set, take, drop}
 use lib.Seq.{take-suc, take_all, drop-cons, set_at, append_snoc, length-take-le}
 use Rattle.std.specs.Prelude.{Ok, Err}
 use Rattle.ints.specs.Answer.{packed}
@@ -36,17 +36,13 @@ take-places (s ∷ t ∷ u ∷ []) h = refl
 take-places (s ∷ t ∷ u ∷ v ∷ []) h = refl
 take-places (s ∷ t ∷ u ∷ v ∷ w ∷ ts) h = absurd (omega arith)
 
--- the first i steps of a list before what stood in the other places, and one step more
+-- the first i steps of a list before what stood in the other places: none of them, one more, and all
 pub laid : List Step → ℕ → List Step → List Step
 laid ts i row = take i ts ++ drop i row
 
 pub laid-none : (ts row : List Step) → row ≡ laid ts 0 row
 unfolding laid
 laid-none ts row = refl
-
-pub length-laid : (ts row : List Step) (i : ℕ) → i ≤ length ts → i ≤ length row → length (laid ts i row) ≡ length row
-unfolding laid
-length-laid ts row i h m = omega (arith, length-append (take i ts) (drop i row), length-take-le i ts h, length-drop i row)
 
 pub laid_more : (ts row : List Step) (i : ℕ) (d : Step) → i < length ts → i < length row → set (laid ts i row) i (get_or ts i d) ≡ laid ts (i + 1) row
 unfolding laid
