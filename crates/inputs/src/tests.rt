@@ -1,0 +1,40 @@
+// What no clause says: that a net which says its rows, and leaves it to the trait to take one of them, is a net.
+ghost use Rattle.std.specs.Prelude.{refl, [], ◌∷◌};
+ghost use Rattle.std.proofs.Common.{lit≤};
+ghost use Rattle.position.specs.Board.{xs, os};
+
+use super::*;
+
+// Both bars, x's first.
+struct Bars;
+
+impl Net for Bars {
+    ghost SIZE = { 10 };
+
+    ghost counts = { λ b. xs b 25 ∷ os b 0 ∷ [] };
+
+    ghost four_each = { λ b. refl };
+
+    ghost most = { lit≤ tt };
+
+    const SIZE: usize = 10;
+
+    fn rows(b: &[i8; 26]) -> [u8; 50] {
+        let mut rows = [0u8; 50];
+        rows[0] = row(b[position::X_BAR]);
+        rows[1] = row(-b[position::O_BAR]);
+        rows
+    }
+}
+
+#[test]
+fn a_net_of_rows_alone_is_asked_by_place(rt: HostRuntime) {
+    let mut b = [0i8; 26];
+    b[position::X_BAR] = 2;
+    b[position::O_BAR] = -5;
+    let wanted = [13.0, 10.0, 0.0, 1.0, 0.0, 0.0, 0.0, 0.0, 1.0, 2.0];
+    for place in 0..10 {
+        assert_eq!(rt; input::<Bars>(b, place), Ok(wanted[place]), "place {place}");
+    }
+    assert_eq!(rt; input::<Bars>(b, 10), Err(Refusal::NoSuchInput));
+}
