@@ -1,4 +1,4 @@
-// What no clause says: that a net which says its rows, and leaves it to the trait to take one of them, is a net.
+// What no clause says: that a net may say its rows alone, and leave it to the trait to take one of them.
 ghost use Rattle.std.specs.Prelude.{refl, [], ◌∷◌};
 ghost use Rattle.std.proofs.Common.{lit≤};
 ghost use Rattle.position.specs.Board.{xs, os};
@@ -28,13 +28,24 @@ impl Net for Bars {
 }
 
 #[test]
-fn a_net_of_rows_alone_is_asked_by_place(rt: HostRuntime) {
+fn a_net_of_rows_alone_is_filled_and_asked(rt: HostRuntime) {
     let mut b = [0i8; 26];
     b[position::X_BAR] = 2;
     b[position::O_BAR] = -5;
     let wanted = [13.0, 10.0, 0.0, 1.0, 0.0, 0.0, 0.0, 0.0, 1.0, 2.0];
+    let mut filled = [0u32; 10];
+    assert_eq!(rt; fill::<Bars>(&b, &mut filled), Ok(()));
     for place in 0..10 {
-        assert_eq!(rt; input::<Bars>(b, place), Ok(wanted[place]), "place {place}");
+        assert_eq!(rt;
+            filled[place],
+            f32::to_bits(wanted[place]),
+            "filled at {place}"
+        );
+        assert_eq!(rt;
+            input::<Bars>(b, place),
+            Ok(wanted[place]),
+            "asked at {place}"
+        );
     }
     assert_eq!(rt; input::<Bars>(b, 10), Err(Refusal::NoSuchInput));
 }
