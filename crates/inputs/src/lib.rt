@@ -66,12 +66,16 @@ pub trait Net {
         requires { Accepted checkers b.now }
         ensures { Rows result (counts b.now) };
 
-    // The row of one point, by its place. A net that can tell it without the others does so, which is faster.
+    // The row of one point, by its place; of a net of no points that of none at place 0, so that there is a call to promise. A net that can
+    // tell it without the others does so, which is faster.
     fn row_at(b: &[i8; 26], k: usize) -> u8
-        requires { Accepted checkers b.now × (k < length (counts b.now)) }
+        requires { Accepted checkers b.now × (k ≤ length (counts b.now) - 1) }
         ensures { Row result (get_or (counts b.now) k 0) }
     {
-        Self::rows(b)[k]
+        if k < (Self::SIZE - 2) / 4 {
+            return Self::rows(b)[k];
+        }
+        row(0)
     }
 
     ghost four_each: { (b : List ℤ) → 2 + 4 * length (counts b) ≡ SIZE };

@@ -27,6 +27,25 @@ impl Net for Bars {
     }
 }
 
+// No points: the checkers that are off alone.
+struct Off;
+
+impl Net for Off {
+    ghost SIZE = { 2 };
+
+    ghost counts = { λ b. [] };
+
+    ghost four_each = { λ b. refl };
+
+    ghost most = { lit≤ tt };
+
+    const SIZE: usize = 2;
+
+    fn rows(_b: &[i8; 26]) -> [u8; 50] {
+        [0u8; 50]
+    }
+}
+
 #[test]
 fn a_net_of_rows_alone_is_filled_and_asked(rt: HostRuntime) {
     let mut b = [0i8; 26];
@@ -48,4 +67,6 @@ fn a_net_of_rows_alone_is_filled_and_asked(rt: HostRuntime) {
         );
     }
     assert_eq!(rt; input::<Bars>(b, 10), Err(Refusal::NoSuchInput));
+    assert_eq!(rt; input::<Off>(b, 1), Ok(10.0));
+    assert_eq!(rt; input::<Off>(b, 2), Err(Refusal::NoSuchInput));
 }
