@@ -66,10 +66,10 @@ pub trait Net {
         requires { Accepted checkers b.now }
         ensures { Rows result (counts b.now) };
 
-    // The row of one point, by its place; of a net of no points that of none at place 0, so that there is a call to promise. A net that can
-    // tell it without the others does so, which is faster.
+    // The row of one point, by its place. A net of no points may be asked place 0, and answers the row of no checkers: a contract that no call
+    // can meet is refused. A net that can tell one row without the others says so here, which is faster.
     fn row_at(b: &[i8; 26], k: usize) -> u8
-        requires { Accepted checkers b.now × (k ≤ length (counts b.now) - 1) }
+        requires { Accepted checkers b.now × (k < length (counts b.now) - 1 + 1) }
         ensures { Row result (get_or (counts b.now) k 0) }
     {
         if k < (Self::SIZE - 2) / 4 {

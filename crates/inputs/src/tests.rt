@@ -67,6 +67,12 @@ fn a_net_of_rows_alone_is_filled_and_asked(rt: HostRuntime) {
         );
     }
     assert_eq!(rt; input::<Bars>(b, 10), Err(Refusal::NoSuchInput));
-    assert_eq!(rt; input::<Off>(b, 1), Ok(10.0));
+}
+
+#[test]
+fn a_net_of_no_points_has_the_row_of_none(rt: HostRuntime) {
+    let b = [0i8; 26];
+    assert_eq!(rt; input::<Off>(b, 1), Ok(15.0));
     assert_eq!(rt; input::<Off>(b, 2), Err(Refusal::NoSuchInput));
+    assert_eq!(rt; Off::row_at(&b, 0), 15);
 }
