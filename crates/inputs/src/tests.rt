@@ -1,4 +1,4 @@
-// What no clause says: that a net may say its rows alone, and leave it to the trait to take one of them.
+// What no clause says: that a net may say its rows alone, and leave it to the trait to take one of them, and may have no points.
 ghost use Rattle.std.specs.Prelude.{refl, [], ◌∷◌};
 ghost use Rattle.std.proofs.Common.{lit≤};
 ghost use Rattle.position.specs.Board.{xs, os};
